@@ -1,0 +1,33 @@
+-- Laws of the first refusal that applies.
+use mathlib.Core.Path.{_≡_, refl, sym, _∙_}
+use Prim.Native.Nat.{ℕ}
+use mathlib.Core.Bool.{Bool, true, false}
+use mathlib.Core.List.{List, [], _∷_}
+use native.Mathlib.Omega.{arith}
+use Rattle.verdict.specs.declared.Verdict.the-variants.{Accepted, Refused}
+use Rattle.verdict.specs.Refusals.{orRefused, firstOf}
+
+-- A refusal stays, whatever follows.
+pub first-refused : (n v : ℕ) (rs : List (Bool × ℕ × ℕ)) → firstOf (Refused n v) rs ≡ Refused n v
+unfolding orRefused
+first-refused n v [] = refl
+first-refused n v (r ∷ rs) = first-refused n v rs
+
+-- A line whose test holds is the answer; one whose test fails leaves it to the next.
+pub first-holds : (t : Bool) (n v : ℕ) (rs : List (Bool × ℕ × ℕ)) → t ≡ true → firstOf Accepted ((t, n, v) ∷ rs) ≡ Refused n v
+unfolding orRefused
+first-holds t n v rs e = rw e (first-refused n v rs)
+
+pub first-fails : (t : Bool) (n v : ℕ) (rs : List (Bool × ℕ × ℕ)) → t ≡ false → firstOf Accepted ((t, n, v) ∷ rs) ≡ firstOf Accepted rs
+unfolding orRefused
+first-fails t n v rs e = rw e refl
+
+-- A refusal does not accept.
+pub refused-accepted : (n v : ℕ) → Refused n v ≡ Accepted → ⊥
+refused-accepted n v e = let z : _≡_ {A = ℕ} 0 1 = cc in omega arith
+
+-- Where the answer accepts, no line's test holds.
+pub accepted-fails : (t : Bool) (n v : ℕ) (rs : List (Bool × ℕ × ℕ)) → firstOf Accepted ((t, n, v) ∷ rs) ≡ Accepted
+    → (t ≡ false) × (firstOf Accepted rs ≡ Accepted)
+accepted-fails true n v rs e = absurd (refused-accepted n v (sym (first-holds true n v rs refl) ∙ e))
+accepted-fails false n v rs e = (refl, sym (first-fails false n v rs refl) ∙ e)
