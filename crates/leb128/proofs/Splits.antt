@@ -1,0 +1,74 @@
+-- Splitting a number into its groups.
+--
+use Prim.Native.Nat.{ℕ, suc, _+_, _-_, _/_, _%_, _^_, _≤_, _<_}
+use mathlib.Core.Path.{_≡_, refl, sym, ap, ap₂, _∙_}
+use mathlib.Core.List.{List, [], _∷_, _++_, append-assoc}
+use native.Mathlib.Numerals.{add-one}
+use native.Mathlib.Omega.{arith}
+use lib.ListN.{length, take, drop, getD, set, replicate}
+use lib.Seq.{take-suc, take-all, length-take-le, set-at, drop-drop, getD-drop}
+use lib.Bits.{bitAnd, bitOr, and-mask, or-shifted-r}
+use Rattle.leb128.specs.Groups.{groupCount, encode}
+use Rattle.leb128.proofs.Steps.{count-last, count-more, encode-last, encode-more}
+use Rattle.leb128.proofs.Laws.{count-pos, count-le, encode-length}
+
+-- a byte that says that more follow
+pub mark-is : (n : ℕ) → bitOr (bitAnd n 127) 128 ≡ 128 + n % 128
+mark-is n = rw (and-mask n 7) (or-shifted-r 1 7 (n % 128) (omega arith))
+
+-- the first i of some bytes, and zeros to the fifth
+abbrev pub filled : List ℕ → ℕ → List ℕ
+filled bytes i = take i bytes ++ replicate (5 - i) 0
+
+fill-more : (bytes : List ℕ) (i : ℕ) → i < length bytes → i < 5 → set (filled bytes i) i (getD bytes i 0) ≡ filled bytes (i + 1)
+fill-more bytes i l f =
+    let m = 5 - (i + 1) in
+    let e : 5 - i ≡ suc m = omega arith in
+    ap (λ (k : ℕ). set (take i bytes ++ replicate k 0) i (getD bytes i 0)) e
+    ∙ set-at (take i bytes) 0 (replicate m 0) (getD bytes i 0) i (length-take-le i bytes (omega arith))
+    ∙ sym (append-assoc (take i bytes) (getD bytes i 0 ∷ []) (replicate m 0))
+    ∙ ap (λ (t : List ℕ). t ++ replicate m 0) (sym (take-suc bytes i 0 l))
+    ∙ ap (λ (k : ℕ). take k bytes ++ replicate m 0) (sym (add-one i))
+
+-- i groups of n are stored, and rest is what is left of n
+pub record Split (n : ℕ) (bytes : List ℕ) (rest i : ℕ) : Type 0 where
+  pub counted : i + groupCount rest ≡ groupCount n
+  pub behind : drop i (encode n) ≡ encode rest
+  pub stored : bytes ≡ filled (encode n) i
+
+pub none-split : (n : ℕ) → Split n (0 ∷ 0 ∷ 0 ∷ 0 ∷ 0 ∷ []) n 0
+none-split n = record { counted = omega arith; behind = refl; stored = refl }
+
+head-is : {n : ℕ} {bytes : List ℕ} {rest i : ℕ} → Split n bytes rest i → (b : ℕ) (bs : List ℕ) → encode rest ≡ b ∷ bs
+    → (getD (encode n) i 0 ≡ b) × (drop (i + 1) (encode n) ≡ bs)
+head-is {n} {bytes} {rest} {i} h b bs e =
+    let q : drop i (encode n) ≡ b ∷ bs = h .behind ∙ e in
+    let z : i ≡ i + 0 = omega arith in (
+      ap (λ (k : ℕ). getD (encode n) k 0) z ∙ sym (getD-drop i (encode n) 0 0) ∙ ap (λ (t : List ℕ). getD t 0 0) q,
+      sym (drop-drop 1 i (encode n)) ∙ ap (drop 1) q,
+    )
+
+pub split-few : {n : ℕ} {bytes : List ℕ} {rest i : ℕ} → n < 2 ^ 32 → Split n bytes rest i → i < 5
+split-few {n} {bytes} {rest} {i} f h = omega (arith, count-le n 4 (omega arith), count-pos rest, h .counted)
+
+pub split-more : {n : ℕ} {bytes : List ℕ} {rest i : ℕ} → n < 2 ^ 32 → Split n bytes rest i → 128 ≤ rest
+    → Split n (set bytes i (bitOr (bitAnd rest 127) 128)) (rest / 128) (i + 1)
+split-more {n} {bytes} {rest} {i} f h m =
+    let d = head-is h _ _ (encode-more rest m) in
+    record {
+      counted = omega (arith, count-more rest m, h .counted);
+      behind = d .1;
+      stored =
+          ap₂ (λ (t : List ℕ) (v : ℕ). set t i v) (h .stored) (mark-is rest ∙ sym (d .0))
+          ∙ fill-more (encode n) i (omega (arith, encode-length n, count-pos rest)) (split-few f h);
+    }
+
+pub split-last : {n : ℕ} {bytes : List ℕ} {rest i : ℕ} → n < 2 ^ 32 → Split n bytes rest i → rest < 128
+    → set bytes i rest ≡ encode n ++ replicate (5 - groupCount n) 0
+split-last {n} {bytes} {rest} {i} f h m =
+    let d = head-is h _ _ (encode-last rest m) in
+    let e : i + 1 ≡ groupCount n = omega (arith, count-last rest m) in
+    ap₂ (λ (t : List ℕ) (v : ℕ). set t i v) (h .stored) (sym (d .0))
+    ∙ fill-more (encode n) i (omega (arith, encode-length n, count-pos rest)) (split-few f h)
+    ∙ ap (filled (encode n)) e
+    ∙ ap (λ (t : List ℕ). t ++ replicate (5 - groupCount n) 0) (take-all (groupCount n) (encode n) (omega (arith, encode-length n)))
