@@ -1,0 +1,9 @@
+pub mod Each
+pub mod Whole
+pub mod Laws
+pub mod Ramp
+pub mod Calendar
+pub mod Bounds
+pub mod Days
+pub mod Closing
+pub mod Claims

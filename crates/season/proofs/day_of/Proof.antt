@@ -1,0 +1,19 @@
+-- The day on its date.
+use Rattle.season.specs.Day.{dayOf}
+use Rattle.season.proofs.Bounds.{date-proper}
+use borrow.Author.Needs.{needs}
+use Rattle.season.proofs.day_of.Statement.{statement}
+use Rattle.season.proofs.day_of.Tie as tie
+
+date-of-requires : tie.Need-date-of-requires
+date-of-requires c κs = search needs
+
+on-date-requires : tie.Need-on-date-requires
+on-date-requires c κs = rw (c .date-of .ensures) (c .before .pre .0 .ranges, (date-proper _ _ (c .before .pre .0) .month-low, date-proper _ _ (c .before .pre .0) .month-high))
+
+returns : tie.Need-returns
+unfolding dayOf
+returns c = rw (c .on-date .ensures, c .before .date-of .ensures)
+
+pub day-of-spec : {M : Type 1} → statement M
+day-of-spec = tie.close (tie.spec date-of-requires on-date-requires returns)

@@ -1,0 +1,37 @@
+-- What is proved of this crate's definitions. `claims`, in proofs/Claims.antt, has a proof of each field.
+use mathlib.Core.Path.{_≡_}
+use mathlib.Core.List.{List, map}
+use Prim.Native.Nat.{ℕ, _+_, _*_, _≤_, _<_}
+use lib.IntN.{pos}
+use Rattle.season.specs.declared.Season.{Season}
+use Rattle.season.specs.declared.Net.{Net}
+use Rattle.season.specs.Sheet.{Valid, DayOf}
+use Rattle.season.specs.Rules.{rampZ, ramp, nearest}
+use Rattle.season.specs.Day.{cropNeed, rainOn, totalOn, readyOn}
+use Rattle.season.specs.Closing.{closeDay}
+use Rattle.season.specs.Depths.{grossOf}
+use Rattle.season.specs.Cases.{small, cases}
+
+pub record Claims : Type 0 where
+  -- The difference of coefficients may be negative, Kp × L + k × (Kn − Kp) never is.
+  pub kc-never-negative : (kp kn l k : ℕ) → k ≤ l → pos (ramp kp kn l k) ≡ rampZ kp kn l k
+  -- Rounding is to the nearest point, a half going up.
+  pub rounded-nearest : (top bottom : ℕ) → 0 < bottom
+      → (2 * bottom * nearest top bottom ≤ 2 * top + bottom) × (2 * top < 2 * bottom * nearest top bottom + bottom)
+  -- Each quantity has its bound.
+  pub need-at-most : (s : Season) (i : ℕ) → Valid s → DayOf s i → cropNeed s i ≤ 3000
+  pub rain-at-most : (s : Season) (i : ℕ) → Valid s → rainOn s i ≤ 25000
+  pub total-at-most : (s : Season) (i : ℕ) → Valid s → totalOn s i ≤ 120000
+  pub ready-below-total : (s : Season) (i : ℕ) → Valid s → readyOn s i < totalOn s i
+  -- Total and ready water never fall.
+  pub total-never-falls : (s : Season) (i : ℕ) → Valid s → totalOn s i ≤ totalOn s (i + 1)
+  pub ready-never-falls : (s : Season) (i : ℕ) → Valid s → readyOn s i ≤ readyOn s (i + 1)
+  -- Closing a day loses no water, and keeps the depletion at most T.
+  pub water-equation : (d w c t r : ℕ) → d + closeDay d w c t r .used + closeDay d w c t r .percolated ≡ closeDay d w c t r .depletion + w
+  pub depletion-at-most-total : (d w c t r : ℕ) → d ≤ t → closeDay d w c t r .depletion ≤ t
+  -- The gross depth is the smallest that gives the net depth at the efficiency.
+  pub gross-is-ceiling : (e : ℕ) (net : Net) → 1 ≤ e → (net .0 * 100 ≤ grossOf e net .0 * e) × (grossOf e net .0 * e < net .0 * 100 + e)
+  -- The ranges are met: by the small sheet, whatever its turns.
+  pub small-valid : (turns : ℕ) → turns ≤ 127 → Valid (small turns)
+  -- The cases marked †.
+  pub cases-hold : map (λ (c : List ℕ × List ℕ). c .0) cases ≡ map (λ (c : List ℕ × List ℕ). c .1) cases

@@ -1,0 +1,9 @@
+-- What document 01 says of a season, as definitions that the contracts cite; then the cases marked †, and what is proved.
+pub mod Calendar
+pub mod Sheet
+pub mod Rules
+pub mod Day
+pub mod Closing
+pub mod Depths
+pub mod Cases
+pub mod Claims
