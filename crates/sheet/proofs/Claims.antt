@@ -1,0 +1,29 @@
+-- The proofs of `specs/Claims.antt`, in its order.
+use mathlib.Core.Path.{refl}
+use Rattle.leb128.specs.Groups.{encode, overGroups, overIn}
+use Rattle.leb128.specs.Forms.{decode, decodeFrom, below}
+use Rattle.season.specs.Cases as season
+use Rattle.verdict.specs.Refusals.{orRefused}
+use Rattle.sheet.specs.Numbers.{before, numbers, ended, numbersRead, written}
+use Rattle.sheet.specs.Fields.{outside, lowestOutside}
+use Rattle.sheet.specs.Sheets.{fieldsVerdict, sheetOf}
+use Rattle.sheet.specs.Cases.{cases}
+use Rattle.sheet.specs.Claims.{Claims}
+use Rattle.sheet.proofs.Verdicts.{refused-empty}
+use Rattle.sheet.proofs.Accepted.{accepted-sown, is-accepted}
+use Rattle.sheet.proofs.Written.{written-accepted}
+use Rattle.sheet.proofs.Lengths.{accepted-length}
+use Rattle.sheet.proofs.Start.{first-bytes-decide}
+
+pub claims : Claims
+unfolding encode overGroups overIn decode decodeFrom below orRefused before numbers ended numbersRead written outside lowestOutside fieldsVerdict sheetOf cases season.small
+claims = record {
+  accepted-sown = accepted-sown;
+  refused-empty = refused-empty;
+  written-accepted = written-accepted;
+  accepted-as-written = λ b bytes e. is-accepted b e .as-written bytes;
+  accepted-length = accepted-length;
+  first-bytes-decide = first-bytes-decide;
+  small-read = refl;
+  cases-hold = refl;
+}

@@ -1,0 +1,9 @@
+pub mod Runs
+pub mod Lowest
+pub mod Ranges
+pub mod Verdicts
+pub mod Written
+pub mod Accepted
+pub mod Lengths
+pub mod Start
+pub mod Claims

@@ -1,0 +1,124 @@
+-- Numbers of which none is outside its limits: each is within them, and the season that they make is in its ranges.
+use Prim.Native.Nat.{ℕ, zero, suc, _+_, _-_, _^_, _≤_, _<_}
+use mathlib.Core.Path.{_≡_, refl, sym, ap, _∙_}
+use mathlib.Core.Bool.{Bool, true, false, _||_}
+use mathlib.Core.List.{List, [], _∷_}
+use native.Mathlib.Nat.{le-of-suc-le-suc, not-suc-le-zero}
+use native.Mathlib.Omega.{arith}
+use borrow.Author.Tests.{ltb-false}
+use lib.Dec.{T, ltb, leb, leb→le, lit<}
+use lib.ListN.{length, drop, getD, List·getD-eq-default}
+use mathlib.Core.Logic.{inl, inr}
+use Rattle.leb128.proofs.Steps.{lt-or-le}
+use Rattle.season.proofs.Each.{both, both-left, both-right, all-le}
+use Rattle.season.specs.Calendar.{lengths}
+use Rattle.season.specs.Sheet.{Ranged, Within}
+use Rattle.sheet.specs.declared.Limit.{Limit}
+use Rattle.sheet.specs.Fields.{limits, outside, lowestOutside, seasonOf}
+use Rattle.sheet.specs.Sheets.{fieldAtFault}
+use Rattle.sheet.proofs.Lowest.{step-true, step-false}
+
+-- The number x is within the limit l.
+pub record Inside (l : Limit) (x : ℕ) : Type 0 where
+  pub low : l .0 ≤ x
+  pub high : x ≤ l .1
+
+or-false : (a b : Bool) → (a || b) ≡ false → (a ≡ false) × (b ≡ false)
+or-false false b e = (refl, e)
+or-false true b e = absurd (let z : _≡_ {A = Bool} true false = e in true-false z)
+  where
+    true-false : true ≡ false → ⊥
+    true-false z = let q : _≡_ {A = ℕ} 0 1 = cc in omega arith
+
+pub inside : (l : Limit) (x : ℕ) → outside l x ≡ false → Inside l x
+unfolding outside
+inside l x e =
+    let t = or-false (ltb x (l .0)) (ltb (l .1) x) e in
+    record { low = ltb-false x (l .0) (t .0); high = ltb-false (l .1) x (t .1) }
+
+pub none-outside : (i : ℕ) (l : Limit) (ls : List Limit) (v : ℕ) (vs : List ℕ) → lowestOutside (suc i) (l ∷ ls) (v ∷ vs) ≡ 0
+    → (outside l v ≡ false) × (lowestOutside (suc (i + 1)) ls vs ≡ 0)
+none-outside i l ls v vs e = go (outside l v) refl
+  where
+    go : (t : Bool) → outside l v ≡ t → (outside l v ≡ false) × (lowestOutside (suc (i + 1)) ls vs ≡ 0)
+    go true o = absurd (omega (arith, sym (step-true (suc i) l ls v vs o) ∙ e))
+    go false o = (o, ap (λ (j : ℕ). lowestOutside j ls vs) (omega arith) ∙ sym (step-false (suc i) l ls v vs o) ∙ e)
+
+-- Where no field is at fault, each is within its limits.
+pub all-inside : (i : ℕ) (ls : List Limit) (vs : List ℕ) → lowestOutside (suc i) ls vs ≡ 0
+    → (k : ℕ) → k < length ls → k < length vs → Inside (getD ls k (0, 0)) (getD vs k 0)
+all-inside i [] vs e k p q = absurd (not-suc-le-zero p)
+all-inside i (l ∷ ls) [] e k p q = absurd (not-suc-le-zero q)
+all-inside i (l ∷ ls) (v ∷ vs) e zero p q = inside l v (none-outside i l ls v vs e .0)
+all-inside i (l ∷ ls) (v ∷ vs) e (suc k) p q =
+    all-inside (i + 1) ls vs (none-outside i l ls v vs e .1) k (le-of-suc-le-suc p) (le-of-suc-le-suc q)
+
+-- A bound on each element of a list holds at every number, since 0 stands past the end.
+abbrev Up : ℕ → List ℕ → Type 0
+Up b [] = Unit
+Up b (x ∷ xs) = (x ≤ b) × Up b xs
+
+up-to : (b : ℕ) (xs : List ℕ) → Up b xs → (k : ℕ) → getD xs k 0 ≤ b
+up-to b [] u k = omega arith
+up-to b (x ∷ xs) u zero = u .0
+up-to b (x ∷ xs) u (suc k) = up-to b xs (u .1) k
+
+below : (k : ℕ) → T (ltb k 40) → k < 40
+below k t = lit< t
+
+-- The season of forty numbers of which none is at fault.
+module _ (f : List ℕ) (n : length f ≡ 40) (e : fieldAtFault f ≡ 0) where
+  pub field-inside : (k : ℕ) → T (ltb k 40) → Inside (getD (limits (getD f 0 0)) k (0, 0)) (getD f k 0)
+  field-inside k t = all-inside 0 (limits (getD f 0 0)) f e k (below k t) (omega (arith, below k t))
+
+  at-most : (k : ℕ) → T (ltb k 40) → getD f k 0 ≤ getD (limits (getD f 0 0)) k (0, 0) .1
+  at-most k t = field-inside k t .high
+
+  within : (k : ℕ) → T (ltb k 40) → Within (getD (limits (getD f 0 0)) k (0, 0) .0) (getD (limits (getD f 0 0)) k (0, 0) .1) (getD f k 0)
+  within k t = record { low≤ = field-inside k t .low; ≤high = field-inside k t .high }
+
+  pub season-ranged : Ranged (seasonOf f)
+  season-ranged = record {
+    month = within 0 tt;
+    first = within 1 tt;
+    initial = within 2 tt;
+    development = within 3 tt;
+    middle = within 4 tt;
+    late = within 5 tt;
+    kcini = within 6 tt;
+    kcmid = within 7 tt;
+    kcend = within 8 tt;
+    eto = up-to 1500 (seasonOf f .eto) ((at-most 9 tt, (at-most 10 tt, (at-most 11 tt, (at-most 12 tt, (at-most 13 tt, (at-most 14 tt, (at-most 15 tt, (at-most 16 tt, (at-most 17 tt, (at-most 18 tt, (at-most 19 tt, (at-most 20 tt, tt)))))))))))));
+    rain = up-to 60000 (seasonOf f .rain) ((at-most 21 tt, (at-most 22 tt, (at-most 23 tt, (at-most 24 tt, (at-most 25 tt, (at-most 26 tt, (at-most 27 tt, (at-most 28 tt, (at-most 29 tt, (at-most 30 tt, (at-most 31 tt, (at-most 32 tt, tt)))))))))))));
+    water = within 33 tt;
+    sowing = within 34 tt;
+    full = within 35 tt;
+    fraction = within 36 tt;
+    efficiency = within 37 tt;
+    opening = at-most 38 tt;
+    turns = at-most 39 tt;
+  }
+
+abbrev low-enough : ℕ → List Limit → Bool
+low-enough b [] = true
+low-enough b (l ∷ ls) = both (leb (l .1) b) (low-enough b ls)
+
+-- The highest limits are small.
+high-up : (b : ℕ) (ls : List Limit) → T (low-enough b ls) → (k : ℕ) → getD ls k (0, 0) .1 ≤ b
+high-up b [] t k = omega arith
+high-up b (l ∷ ls) t zero = leb→le (l .1) b (both-left (leb (l .1) b) (low-enough b ls) t)
+high-up b (l ∷ ls) t (suc k) = high-up b ls (both-right (leb (l .1) b) (low-enough b ls) t) k
+
+limits-high : (month k : ℕ) → getD (limits month) k (0, 0) .1 ≤ 120000
+limits-high month zero = omega arith
+limits-high month (suc zero) = omega (arith, all-le 31 lengths tt (month - 1))
+limits-high month (suc (suc k)) = high-up 120000 (drop 2 (limits month)) tt k
+
+pub fields-small : (f : List ℕ) → length f ≡ 40 → fieldAtFault f ≡ 0 → (k : ℕ) → getD f k 0 < 2 ^ 21
+fields-small f n e k =
+    elim (lt-or-le k 40) [
+      | inl l ↦
+          let i = all-inside 0 (limits (getD f 0 0)) f e k l (omega arith) in
+          omega (arith, limits-high (getD f 0 0) k, i .high)
+      | inr m ↦ let z : getD f k 0 ≡ 0 = List·getD-eq-default f 0 {n = k} (omega arith) in omega arith
+    ]

@@ -1,0 +1,72 @@
+-- `sheet::judge` meets its contract: no field is at fault where the season is made, so it is in its ranges (proofs/Ranges.antt).
+use mathlib.Core.Path.{_≡_, sym, ap, _∙_}
+use native.Mathlib.Omega.{arith}
+use Rattle.sheet.specs.Sheets.{fieldAtFault}
+use Rattle.sheet.proofs.Ranges.{season-ranged}
+use Rattle.sheet.proofs.Verdicts.{fault-refused, chain}
+use Rattle.season.specs.Sheet.{Ranged}
+use Rattle.verdict.specs.declared.Verdict.the-variants.{Refused}
+use borrow.Author.Needs.{needs}
+use Rattle.sheet.proofs.judge.Statement.{statement}
+use Rattle.sheet.proofs.judge.Tie as tie
+
+lowest-outside-requires : tie.Need-lowest-outside-requires
+lowest-outside-requires c κs = search needs
+
+returns : tie.Need-returns
+returns c =
+    let f = c .before .before .args .fields in
+    let e : c .before .lowest-outside .result ≡ fieldAtFault f = c .before .lowest-outside .ensures in
+    ap (Refused 4) e ∙ sym (fault-refused f (omega (arith, e, c .if1 .taken)))
+
+season-of-requires : tie.Need-season-of-requires
+season-of-requires c κs = search needs
+
+-- no field is at fault
+clear : (c : tie.Else1) → fieldAtFault (c .before .before .args .fields) ≡ 0
+clear c = omega (arith, c .before .lowest-outside .ensures, c .if1 .left)
+
+ranged : (c : tie.After-season-of) → Ranged (c .season-of .result)
+ranged c =
+    let start = c .before .before .before in
+    rw (c .season-of .ensures) (season-ranged (start .args .fields) (start .good .0 .1 .0 .1) (clear (c .before)))
+
+season-days-requires : tie.Need-season-days-requires
+season-days-requires c κs = ranged c
+
+or-refused-requires : tie.Need-or-refused-requires
+or-refused-requires c κs = search needs
+
+or-refused-requires-2 : tie.Need-or-refused-requires-2
+or-refused-requires-2 c κs = search needs
+
+total-water-requires : tie.Need-total-water-requires
+total-water-requires c κs = ranged (c .before .before .before .before)
+
+or-refused-requires-3 : tie.Need-or-refused-requires-3
+or-refused-requires-3 c κs = search needs
+
+returns-2 : tie.Need-returns-2
+returns-2 c =
+    let water = c .before .before in
+    let second = water .before in
+    let first = second .before .before in
+    let days = first .before in
+    let of = days .before in
+    chain (of .before .before .before .args .fields) (of .season-of .result) (days .season-days .result) (water .total-water .result) _ _ _
+    (clear (of .before)) (of .season-of .ensures) (days .season-days .ensures) (water .total-water .ensures)
+    (first .or-refused .ensures) (second .or-refused2 .ensures) (c .or-refused3 .ensures)
+
+pub judge-spec : {M : Type 1} → statement M
+judge-spec =
+    tie.close
+    (tie.spec
+    lowest-outside-requires
+    returns
+    season-of-requires
+    season-days-requires
+    or-refused-requires
+    or-refused-requires-2
+    total-water-requires
+    or-refused-requires-3
+    returns-2)

@@ -1,0 +1,51 @@
+-- Document 01, 'Numbers to hold against it': the small sheet, and a case of each of refusals 1 to 7.
+-- Left, what the definitions answer; right, the refusal's number and the number returned with it, or 0 and 0.
+use Prim.Native.Nat.{ℕ}
+use mathlib.Core.List.{List, [], _∷_, _++_}
+use lib.ListN.{replicate, set}
+use Rattle.verdict.specs.Refusals.{numbersOf}
+use Rattle.sheet.specs.Numbers.{written}
+use Rattle.sheet.specs.Sheets.{sheetOf}
+
+-- The small sheet, with turns 127.
+abbrev pub small : List ℕ
+small =
+    1 ∷ 9 ∷ 1 ∷ 1 ∷ 1 ∷ 1 ∷ 40 ∷ 100 ∷ 60 ∷ 500
+    ∷ (replicate 23 0 ++ (100 ∷ 20 ∷ 20 ∷ 50 ∷ 75 ∷ 0 ∷ 127 ∷ []))
+
+-- The answer to some bytes.
+abbrev answer : List ℕ → List ℕ
+answer bytes = numbersOf (sheetOf bytes .verdict)
+
+-- Another value at a place of some fields; the place is one less than the field's number.
+abbrev changed : ℕ → ℕ → List ℕ → List ℕ
+changed place value fields = set fields place value
+
+unfoldable pub cases : List (List ℕ × List ℕ)
+cases =
+    -- † 80 00 is refused 2
+    (answer (0x80 ∷ 0x00 ∷ []), 2 ∷ 1 ∷ [])
+    -- the small sheet is accepted
+    ∷ (answer (written small), 0 ∷ 0 ∷ [])
+    -- 1: the sheet ends too soon, with its length; 2 where that comes first in the bytes
+    ∷ (answer [], 1 ∷ 0 ∷ [])
+    ∷ (answer (0x01 ∷ 0x80 ∷ []), 1 ∷ 2 ∷ [])
+    ∷ (answer (0x01 ∷ 0x80 ∷ 0x80 ∷ 0x80 ∷ []), 2 ∷ 3 ∷ [])
+    -- 3: the first extra byte, also where no number stands there
+    ∷ (answer (written small ++ (0x00 ∷ 0x00 ∷ [])), 3 ∷ 41 ∷ [])
+    ∷ (answer (written small ++ (0x80 ∷ 0x00 ∷ [])), 3 ∷ 41 ∷ [])
+    -- 4: 29 February; the lowest of two fields outside their ranges; the month before the day
+    ∷ (answer (written (changed 0 2 (changed 1 29 small))), 4 ∷ 2 ∷ [])
+    ∷ (answer (written (changed 39 128 (changed 36 4 small))), 4 ∷ 37 ∷ [])
+    ∷ (answer (written (changed 0 13 (changed 1 40 small))), 4 ∷ 1 ∷ [])
+    -- 5: 366 days; 365 are accepted
+    ∷ (answer (written (changed 2 166 (changed 3 100 (changed 4 50 (changed 5 50 small))))), 5 ∷ 0 ∷ [])
+    ∷ (answer (written (changed 2 165 (changed 3 100 (changed 4 50 (changed 5 50 small))))), 0 ∷ 0 ∷ [])
+    -- 6 before 7
+    ∷ (answer (written (changed 34 21 (changed 38 2101 small))), 6 ∷ 0 ∷ [])
+    -- 7: T on day 1 is 2,000; with Zm 40 it is 3,000
+    ∷ (answer (written (changed 38 2001 small)), 7 ∷ 0 ∷ [])
+    ∷ (answer (written (changed 38 2000 small)), 0 ∷ 0 ∷ [])
+    ∷ (answer (written (changed 35 40 (changed 38 3001 small))), 7 ∷ 0 ∷ [])
+    ∷ (answer (written (changed 35 40 (changed 38 3000 small))), 0 ∷ 0 ∷ [])
+    ∷ []

@@ -1,0 +1,32 @@
+-- What is proved of this crate's definitions. `claims`, in proofs/Claims.antt, has a proof of each field.
+use mathlib.Core.Path.{_≡_}
+use mathlib.Core.List.{List, _++_, map}
+use Prim.Native.Nat.{ℕ, _≤_}
+use lib.ListN.{length}
+use Rattle.leb128.specs.Claims.{Bytes}
+use Rattle.season.specs.Day.{Sown}
+use Rattle.season.specs.Cases as season
+use Rattle.verdict.specs.declared.Verdict.the-variants.{Accepted, Refused}
+use Rattle.sheet.specs.Numbers.{numbersRead, written}
+use Rattle.sheet.specs.Fields.{seasonOf}
+use Rattle.sheet.specs.Sheets.{fieldsVerdict, refusal, sheetOf}
+use Rattle.sheet.specs.Cases.{small, cases}
+
+pub record Claims : Type 0 where
+  -- An accepted sheet's season is in its ranges, at most 365 days long, with Z0 at most Zm and an opening depletion of at most T on day 1.
+  pub accepted-sown : (b : List ℕ) → sheetOf b .verdict ≡ Accepted → Sown (sheetOf b .season)
+  -- A refused sheet's numbers are all 0.
+  pub refused-empty : (b : List ℕ) (number value : ℕ) → sheetOf b .verdict ≡ Refused number value → sheetOf b ≡ refusal number value
+  -- Forty numbers that refusals 4 to 7 leave, written one after another, are accepted as those numbers.
+  pub written-accepted : (vs : List ℕ) → length vs ≡ 40 → fieldsVerdict vs ≡ Accepted
+      → sheetOf (written vs) ≡ record { season = seasonOf vs; verdict = Accepted }
+  -- An accepted sheet is its forty numbers, written.
+  pub accepted-as-written : (b : List ℕ) → Bytes b → sheetOf b .verdict ≡ Accepted → b ≡ written (numbersRead b .fields)
+  -- It has 40 to 86 bytes.
+  pub accepted-length : (b : List ℕ) → Bytes b → sheetOf b .verdict ≡ Accepted → (40 ≤ length b) × (length b ≤ 86)
+  -- A sheet's first 121 bytes decide.
+  pub first-bytes-decide : (t y : List ℕ) → 121 ≤ length t → sheetOf (t ++ y) ≡ sheetOf t
+  -- The small sheet is the season of that name.
+  pub small-read : sheetOf (written small) ≡ record { season = season.small 127; verdict = Accepted }
+  -- The cases.
+  pub cases-hold : map (λ (c : List ℕ × List ℕ). c .0) cases ≡ map (λ (c : List ℕ × List ℕ). c .1) cases

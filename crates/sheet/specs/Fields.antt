@@ -1,0 +1,48 @@
+-- Document 01, 'The season sheet': the fields, their ranges and their names.
+use Prim.Native.Nat.{ℕ, _+_}
+use mathlib.Core.Bool.{Bool, cond, _||_}
+use mathlib.Core.List.{List, [], _∷_, _++_}
+use lib.Dec.{ltb}
+use lib.ListN.{getD, replicate}
+use Rattle.season.specs.Calendar.{monthDays}
+use Rattle.season.specs.declared.Season.{Season}
+use Rattle.sheet.specs.declared.Limit.{Limit}
+
+-- The lowest and the highest number of each field: 1; 2, which goes to the month's length; 3 to 6; 7 to 9; 10 to 21; 22 to 33; 34 to 40.
+abbrev pub limits : ℕ → List Limit
+limits month =
+    (1, 12) ∷ (1, monthDays month) ∷ (
+    replicate 4 (1, 200) ++ replicate 3 (10, 200) ++ replicate 12 (0, 1500) ++ replicate 12 (0, 60000)
+    ++ ((1, 400) ∷ (10, 300) ∷ (10, 300) ∷ (5, 80) ∷ (1, 100) ∷ (0, 120000) ∷ (0, 127) ∷ []))
+
+unfoldable pub outside : Limit → ℕ → Bool
+outside limit x = ltb x (limit .0) || ltb (limit .1) x
+
+-- The lowest field outside its limits, the first having number i; 0 where none is.
+unfoldable pub lowestOutside : ℕ → List Limit → List ℕ → ℕ
+lowestOutside i [] vs = 0
+lowestOutside i (l ∷ ls) [] = 0
+lowestOutside i (l ∷ ls) (v ∷ vs) = cond (outside l v) i (lowestOutside (i + 1) ls vs)
+
+-- Field k, counted from 1, stands at place k - 1.
+abbrev pub seasonOf : List ℕ → Season
+seasonOf f = record {
+  month = getD f 0 0;
+  first = getD f 1 0;
+  initial = getD f 2 0;
+  development = getD f 3 0;
+  middle = getD f 4 0;
+  late = getD f 5 0;
+  kcini = getD f 6 0;
+  kcmid = getD f 7 0;
+  kcend = getD f 8 0;
+  eto = getD f 9 0 ∷ getD f 10 0 ∷ getD f 11 0 ∷ getD f 12 0 ∷ getD f 13 0 ∷ getD f 14 0 ∷ getD f 15 0 ∷ getD f 16 0 ∷ getD f 17 0 ∷ getD f 18 0 ∷ getD f 19 0 ∷ getD f 20 0 ∷ [];
+  rain = getD f 21 0 ∷ getD f 22 0 ∷ getD f 23 0 ∷ getD f 24 0 ∷ getD f 25 0 ∷ getD f 26 0 ∷ getD f 27 0 ∷ getD f 28 0 ∷ getD f 29 0 ∷ getD f 30 0 ∷ getD f 31 0 ∷ getD f 32 0 ∷ [];
+  water = getD f 33 0;
+  sowing = getD f 34 0;
+  full = getD f 35 0;
+  fraction = getD f 36 0;
+  efficiency = getD f 37 0;
+  opening = getD f 38 0;
+  turns = getD f 39 0;
+}

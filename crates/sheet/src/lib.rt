@@ -1,0 +1,259 @@
+// The season sheet (document 01): forty numbers one after another, their ranges, and refusals 1 to 7.
+use leb128::Number;
+use season::Season;
+use verdict::Verdict;
+ghost use mathlib.Core.Path.{_≡_};
+ghost use Rattle.sheet.specs.Numbers.{numbersRead, none};
+ghost use Rattle.sheet.specs.Fields.{limits, outside, lowestOutside, seasonOf};
+ghost use Rattle.sheet.specs.Sheets.{fieldsVerdict, sheetOf, refusal};
+ghost use Rattle.season.specs.Calendar.{monthDays};
+ghost use lib.ListN.{getD};
+
+// A sheet's numbers, all 0 where one of refusals 1 to 3 applies. The array stands beside the verdict, since an enum that holds one
+// is not covered.
+struct Numbers {
+    fields: [u32; 40],
+    verdict: Verdict,
+}
+
+// A sheet's season, all 0 where the sheet is refused.
+pub struct Sheet {
+    pub season: Season,
+    pub verdict: Verdict,
+}
+
+// The lowest and the highest number of a field.
+struct Limit(u32, u32);
+
+// By field. Field 2's highest is the month's length, which `limits_of` puts in.
+const LIMITS: [Limit; 40] = [
+    Limit(1, 12),
+    Limit(1, 31),
+    Limit(1, 200),
+    Limit(1, 200),
+    Limit(1, 200),
+    Limit(1, 200),
+    Limit(10, 200),
+    Limit(10, 200),
+    Limit(10, 200),
+    Limit(0, 1500),
+    Limit(0, 1500),
+    Limit(0, 1500),
+    Limit(0, 1500),
+    Limit(0, 1500),
+    Limit(0, 1500),
+    Limit(0, 1500),
+    Limit(0, 1500),
+    Limit(0, 1500),
+    Limit(0, 1500),
+    Limit(0, 1500),
+    Limit(0, 1500),
+    Limit(0, 60000),
+    Limit(0, 60000),
+    Limit(0, 60000),
+    Limit(0, 60000),
+    Limit(0, 60000),
+    Limit(0, 60000),
+    Limit(0, 60000),
+    Limit(0, 60000),
+    Limit(0, 60000),
+    Limit(0, 60000),
+    Limit(0, 60000),
+    Limit(0, 60000),
+    Limit(1, 400),
+    Limit(10, 300),
+    Limit(10, 300),
+    Limit(5, 80),
+    Limit(1, 100),
+    Limit(0, 120000),
+    Limit(0, 127),
+];
+
+// The days that refusal 5 lets pass.
+const LONGEST_SEASON: u32 = 365;
+
+// ---- refusals 1 to 3
+
+fn no_numbers(number: u32, value: usize) -> Numbers
+    ensures { λ r. ⌜ r ≡ none number value ⌝ }
+{
+    Numbers {
+        fields: [0u32; 40],
+        verdict: Verdict::Refused(number, value),
+    }
+}
+
+// The forty numbers of a sheet, or the first of refusals 1 to 3 that applies.
+fn read_numbers(sheet: &[u8]) -> Numbers
+    ensures { λ r. ⌜ r ≡ numbersRead (now (sheet .entry)) ⌝ }
+{
+    let mut fields = [0u32; 40];
+    let mut at: usize = 0;
+    let mut k: usize = 0;
+    while k < 40 {
+        match leb128::read(&sheet[at..]) {
+            Number::Whole(value, length) => {
+                fields[k] = value;
+                at += length;
+            }
+            Number::Short => return no_numbers(1, sheet.len()),
+            Number::Bad(place) => return no_numbers(2, at + place),
+        }
+        k += 1;
+    }
+    if at < sheet.len() {
+        return no_numbers(3, at);
+    }
+    Numbers {
+        fields,
+        verdict: Verdict::Accepted,
+    }
+}
+
+// ---- refusals 4 to 7
+
+// The length of a month. What is no month has a length too, which nothing reads: field 1 is at fault before field 2.
+fn month_length(month: u32) -> u32
+    ensures { λ r. ⌜ r ≡ monthDays month ⌝ }
+{
+    if month == 0 {
+        return 31;
+    }
+    if 12 < month {
+        return 0;
+    }
+    season::month_days(month)
+}
+
+fn limits_of(month: u32) -> [Limit; 40]
+    ensures { λ r. ⌜ r ≡ limits month ⌝ }
+{
+    let mut by_field = LIMITS;
+    by_field[1] = Limit(1, month_length(month));
+    by_field
+}
+
+fn is_outside(limit: Limit, x: u32) -> bool
+    ensures { λ r. ⌜ r ≡ outside limit x ⌝ }
+{
+    x < limit.0 || limit.1 < x
+}
+
+// The lowest field outside its limits, counted from 1; 0 where none is.
+fn lowest_outside(fields: [u32; 40]) -> usize
+    ensures { λ r. ⌜ r ≡ lowestOutside 1 (limits (getD fields 0 0)) fields ⌝ }
+{
+    let by_field = limits_of(fields[0]);
+    let mut i: usize = 0;
+    while i < 40 {
+        let limit = by_field[i];
+        if is_outside(limit, fields[i]) {
+            return i + 1;
+        }
+        i += 1;
+    }
+    0
+}
+
+// A sheet's fields by name.
+fn season_of(f: [u32; 40]) -> Season
+    ensures { λ r. ⌜ r ≡ seasonOf f ⌝ }
+{
+    Season {
+        month: f[0],
+        first: f[1],
+        initial: f[2],
+        development: f[3],
+        middle: f[4],
+        late: f[5],
+        kcini: f[6],
+        kcmid: f[7],
+        kcend: f[8],
+        eto: [
+            f[9],
+            f[10],
+            f[11],
+            f[12],
+            f[13],
+            f[14],
+            f[15],
+            f[16],
+            f[17],
+            f[18],
+            f[19],
+            f[20],
+        ],
+        rain: [
+            f[21],
+            f[22],
+            f[23],
+            f[24],
+            f[25],
+            f[26],
+            f[27],
+            f[28],
+            f[29],
+            f[30],
+            f[31],
+            f[32],
+        ],
+        water: f[33],
+        sowing: f[34],
+        full: f[35],
+        fraction: f[36],
+        efficiency: f[37],
+        opening: f[38],
+        turns: f[39],
+    }
+}
+
+// Forty numbers: the first of refusals 4 to 7 that applies.
+fn judge(fields: [u32; 40]) -> Verdict
+    ensures { λ r. ⌜ r ≡ fieldsVerdict fields ⌝ }
+{
+    let field = lowest_outside(fields);
+    if 0 < field {
+        return Verdict::Refused(4, field);
+    }
+    let s = season_of(fields);
+    let days = season::season_days(s);
+    Verdict::Accepted
+        .or_refused(LONGEST_SEASON < days, 5, 0)
+        .or_refused(s.full < s.sowing, 6, 0)
+        .or_refused(season::total_water(s, 1) < s.opening, 7, 0)
+}
+
+// ---- the sheet
+
+fn refused(number: u32, value: usize) -> Sheet
+    ensures { λ r. ⌜ r ≡ refusal number value ⌝ }
+{
+    let season = season_of([0u32; 40]);
+    Sheet {
+        season,
+        verdict: Verdict::Refused(number, value),
+    }
+}
+
+// The season of a sheet, or the first of refusals 1 to 7 that applies.
+pub fn read(sheet: &[u8]) -> Sheet
+    ensures { λ r. ⌜ r ≡ sheetOf (now (sheet .entry)) ⌝ }
+{
+    let numbers = read_numbers(sheet);
+    let fields = numbers.fields;
+    let form = numbers.verdict;
+    match form {
+        Verdict::Refused(number, value) => return refused(number, value),
+        Verdict::Accepted => {}
+    }
+    match judge(fields) {
+        Verdict::Refused(number, value) => refused(number, value),
+        Verdict::Accepted => {
+            let season = season_of(fields);
+            Sheet {
+                season,
+                verdict: Verdict::Accepted,
+            }
+        }
+    }
+}
