@@ -1,0 +1,5 @@
+pub mod Year
+pub mod Count
+pub mod Rows
+pub mod Answers
+pub mod Claims

@@ -1,0 +1,165 @@
+-- The days of the year and its decades: how they go on from day to day.
+use mathlib.Core.Path.{_≡_, refl, sym, _∙_, ap}
+use mathlib.Core.Bool.{Bool, true, cond}
+use mathlib.Core.List.{List, [], _∷_}
+use mathlib.Core.Logic.{_⊎_, inl, inr}
+use Prim.Native.Nat.{ℕ, zero, suc, _+_, _-_, _*_, _≤_, _<_}
+use native.Mathlib.Omega.{arith}
+use lib.Dec.{T, leb, eqb, leb→le, eqb→eq}
+use lib.ListN.{getD}
+use borrow.Author.Tests.{le-leb, lt-leb, lt-ltb, eq-eqb, ne-eqb}
+use Rattle.season.specs.declared.Date.{Date}
+use Rattle.season.specs.Calendar.{lengths, monthDays, dateIs, nextDay}
+use Rattle.season.proofs.Each.{both, both-left, both-right}
+use Rattle.season.proofs.Whole.{by-order}
+use Rattle.season.proofs.Calendar.{Proper, days-low, days-high, next-in, next-over}
+use Rattle.decades.specs.Table.{decadeOf, sameDecade}
+
+-- A test that antt computes at each number below n.
+abbrev upTo : (ℕ → Bool) → ℕ → Bool
+upTo f zero = true
+upTo f (suc n) = both (f n) (upTo f n)
+
+below : (f : ℕ → Bool) (n : ℕ) → T (upTo f n) → (k : ℕ) → k < n → T (f k)
+below f zero t k h = absurd (omega arith)
+below f (suc n) t k h =
+    by-order k n
+    (λ p. let e : n ≡ k = omega arith in rw e at (both-left (f n) (upTo f n) t))
+    (λ p. below f n (both-right (f n) (upTo f n) t) k p)
+
+-- The days of the year before each month.
+abbrev pub starts : List ℕ
+starts = 0 ∷ 31 ∷ 59 ∷ 90 ∷ 120 ∷ 151 ∷ 181 ∷ 212 ∷ 243 ∷ 273 ∷ 304 ∷ 334 ∷ []
+
+abbrev pub offset : ℕ → ℕ
+offset m = getD starts (m - 1) 0
+
+offset-next : (k : ℕ) → k < 11 → getD starts (k + 1) 0 ≡ getD starts k 0 + getD lengths k 0
+offset-next k h = eqb→eq _ _ (below (λ j. eqb (getD starts (j + 1) 0) (getD starts j 0 + getD lengths j 0)) 11 tt k h)
+
+-- A month that begins before another ends before it begins.
+offset-order : (j k : ℕ) → j < k → k < 12 → getD starts j 0 + getD lengths j 0 ≤ getD starts k 0
+offset-order j k h l =
+    leb→le _ _ (below (λ i. leb (getD starts i 0 + getD lengths i 0) (getD starts k 0)) k (in-order k l) j h)
+  where
+    in-order : (k : ℕ) → k < 12 → T (upTo (λ i. leb (getD starts i 0 + getD lengths i 0) (getD starts k 0)) k)
+    in-order = below (λ k. upTo (λ i. leb (getD starts i 0 + getD lengths i 0) (getD starts k 0)) k) 12 tt
+
+-- The day of the year from 0, and the decade of the year, the first being 4.
+abbrev pub yearDay : Date → ℕ
+yearDay t = offset (t .month) + t .day - 1
+
+abbrev pub yearDecade : Date → ℕ
+yearDecade t = 3 * t .month + decadeOf (t .day)
+
+first-decade : (d : ℕ) → d ≤ 10 → decadeOf d ≡ 1
+first-decade d h = rw (le-leb d 10 h)
+
+second-decade : (d : ℕ) → 10 < d → d ≤ 20 → decadeOf d ≡ 2
+second-decade d h l = rw (lt-leb d 10 h, le-leb d 20 l)
+
+third-decade : (d : ℕ) → 20 < d → decadeOf d ≡ 3
+third-decade d h = let l : 10 < d = omega arith in rw (lt-leb d 10 l, lt-leb d 20 h)
+
+pub decade-within : (d : ℕ) → (1 ≤ decadeOf d) × (decadeOf d ≤ 3)
+decade-within d =
+    by-order 10 d (λ h. omega (arith, first-decade d h)) (λ h. by-order 20 d (λ l. omega (arith, second-decade d h l)) (λ l. omega (arith, third-decade d l)))
+
+decade-up : (d e : ℕ) → d ≤ e → decadeOf d ≤ decadeOf e
+decade-up d e h =
+    by-order 10 d (λ p. omega (arith, first-decade d p, decade-within e))
+    (λ p. by-order 20 d
+    (λ q. by-order 20 e (λ r. omega (arith, second-decade d p q, second-decade e (omega arith) r)) (λ r. omega (arith, second-decade d p q, third-decade e r)))
+    (λ q. omega (arith, third-decade d q, third-decade e (omega arith))))
+
+decade-next : (d : ℕ) → (decadeOf (d + 1) ≡ decadeOf d) ⊎ (decadeOf (d + 1) ≡ decadeOf d + 1)
+decade-next d =
+    by-order 10 (d + 1) (λ p. inl (first-decade (d + 1) p ∙ sym (first-decade d (omega arith))))
+    (λ p. by-order 10 d (λ q. inr (second-decade (d + 1) p (omega arith) ∙ sym (ap (λ (k : ℕ). k + 1) (first-decade d q))))
+    (λ q. by-order 20 (d + 1) (λ r. inl (second-decade (d + 1) p r ∙ sym (second-decade d q (omega arith))))
+    (λ r. by-order 20 d (λ s. inr (third-decade (d + 1) r ∙ sym (ap (λ (k : ℕ). k + 1) (second-decade d q s))))
+    (λ s. inl (third-decade (d + 1) r ∙ sym (third-decade d s))))))
+
+-- A later day of the year is of no earlier decade.
+pub year-order : (a b : Date) → Proper a → Proper b → yearDay a ≤ yearDay b → yearDecade a ≤ yearDecade b
+year-order a b p q h =
+    by-order (a .month) (b .month)
+    (λ l. by-order (b .month) (a .month)
+    (λ m. let e : a .month ≡ b .month = omega arith in
+    let o : offset (a .month) ≡ offset (b .month) = ap offset e in
+    omega (arith, decade-up (a .day) (b .day) (omega (arith, p .day-low, q .day-low))))
+    (λ m. absurd (omega (arith, offset-order (b .month - 1) (a .month - 1) (omega (arith, p .month-low, q .month-low)) (omega (arith, p .month-high)), q .day-high, p .day-low, q .day-low))))
+    (λ l. omega (arith, decade-within (a .day), decade-within (b .day)))
+
+-- 1 where the second day is of another decade of the calendar than the first, and else 0.
+abbrev pub sameDates : Date → Date → Bool
+sameDates a b = sameDecade (a .month) (decadeOf (a .day)) (b .month) (decadeOf (b .day))
+
+abbrev pub fresh : Date → Date → ℕ
+fresh a b = cond (sameDates a b) 0 1
+
+fresh-in : (m d e : ℕ) → (decadeOf e ≡ decadeOf d) ⊎ (decadeOf e ≡ decadeOf d + 1) → decadeOf e ≡ decadeOf d + fresh (dateIs m d) (dateIs m e)
+fresh-in m d e (inl h) = rw (eq-eqb m m refl, eq-eqb (decadeOf d) (decadeOf e) (sym h)) (omega arith)
+fresh-in m d e (inr h) = rw (eq-eqb m m refl, ne-eqb (decadeOf d) (decadeOf e) (λ z. omega arith)) h
+
+fresh-over : (m d n e : ℕ) → (m ≡ n → ⊥) → fresh (dateIs m d) (dateIs n e) ≡ 1
+fresh-over m d n e h = rw (ne-eqb m n h)
+
+-- From one day to the next: a day on in the year, or from its last to its first.
+unfoldable pub Next : Date → Date → Type 0
+Next t u = ((yearDay u ≡ yearDay t + 1) × (yearDecade u ≡ yearDecade t + fresh t u))
+    ⊎ ((yearDay t ≡ 364) × (yearDay u ≡ 0) × (yearDecade u + 36 ≡ yearDecade t + fresh t u))
+
+next-inside : (m d : ℕ) → 1 ≤ d → d < monthDays m → Next (dateIs m d) (nextDay (dateIs m d))
+unfolding Next
+next-inside m d h l =
+    rw (next-in m d l) (inl (omega arith, omega (arith, fresh-in m d (d + 1) (decade-next d))))
+
+next-year : Next (dateIs 12 31) (dateIs 1 1)
+unfolding Next
+next-year = inr (refl, refl, refl)
+
+next-month : (m d : ℕ) → 1 ≤ m → m < 12 → d ≡ monthDays m → Next (dateIs m d) (dateIs (m + 1) 1)
+unfolding Next
+next-month m d p l e =
+    let long : 20 < d = omega (arith, days-low m p (omega arith)) in
+    let k : m + 1 - 1 ≡ m - 1 + 1 = omega arith in
+    let o : offset (m + 1) ≡ offset m + monthDays m = ap (λ (j : ℕ). getD starts j 0) k ∙ offset-next (m - 1) (omega arith) in
+    let f : fresh (dateIs m d) (dateIs (m + 1) 1) ≡ 1 = fresh-over m d (m + 1) 1 (λ z. omega arith) in
+    inl (omega arith, omega (arith, third-decade d long))
+
+pub next : (t : Date) → Proper t → Next t (nextDay t)
+next t p =
+    by-order (t .day) (monthDays (t .month))
+    (λ h. let e : t .day ≡ monthDays (t .month) = omega (arith, p .day-high) in
+    by-order (t .month) 12
+    (λ l. let m : t .month ≡ 12 = omega (arith, p .month-high) in
+    let d : t .day ≡ 31 = e ∙ ap monthDays m in
+    let w : t ≡ dateIs 12 31 = (λ i. record { month = m i; day = d i }) in
+    rw w (rw (next-over 12 31 (omega arith)) next-year))
+    (λ l. rw (next-over (t .month) (t .day) h) (rw (lt-ltb (t .month) 12 l) (next-month (t .month) (t .day) (p .month-low) l e))))
+    (λ h. next-inside (t .month) (t .day) (p .day-low) h)
+
+pub year-within : (t : Date) → Proper t → yearDay t < 365
+year-within t p =
+    let l : offset (t .month) + monthDays (t .month) ≤ 365 = leb→le _ _ (below (λ k. leb (getD starts k 0 + getD lengths k 0) 365) 12 tt (t .month - 1) (omega (arith, p .month-low, p .month-high))) in
+    omega (arith, p .day-low, p .day-high)
+
+-- Dates are in the order of 32 × month + day.
+pub year-before : (a b : Date) → Proper a → Proper b → 32 * a .month + a .day < 32 * b .month + b .day → yearDay a < yearDay b
+year-before a b p q h =
+    by-order (b .month) (a .month)
+    (λ l. by-order (a .month) (b .month)
+    (λ m. let e : a .month ≡ b .month = omega arith in
+    let o : offset (a .month) ≡ offset (b .month) = ap offset e in
+    omega (arith, p .day-low))
+    (λ m. omega (arith, offset-order (a .month - 1) (b .month - 1) (omega (arith, p .month-low)) (omega (arith, q .month-high)), p .day-high, p .day-low, q .day-low)))
+    (λ l. absurd (omega (arith, days-high (b .month) (q .month-low) (q .month-high), q .day-high, p .day-low)))
+
+pub year-after : (a b : Date) → Proper a → Proper b → 32 * a .month + a .day ≤ 32 * b .month + b .day → yearDay a ≤ yearDay b
+year-after a b p q h =
+    by-order (32 * a .month + a .day) (32 * b .month + b .day)
+    (λ l. let m : a .month ≡ b .month = omega (arith, days-high (a .month) (p .month-low) (p .month-high), p .day-high, p .day-low, days-high (b .month) (q .month-low) (q .month-high), q .day-high, q .day-low) in
+    let o : offset (a .month) ≡ offset (b .month) = ap offset m in
+    omega arith)
+    (λ l. omega (arith, year-before a b p q l))
