@@ -1,0 +1,54 @@
+-- The answer goes by what reading the sheet answered.
+use mathlib.Core.Path.{sym, _∙_}
+use denote.Ref.{now}
+use Rattle.decades.specs.declared.Tabled.the-variants.{Refused}
+use Rattle.decades.specs.Table.{tabled}
+use Rattle.controller.proofs.Sheets.{sheet-refused, sheet-accepted, read-sown}
+use borrow.Author.Needs.{needs}
+use Rattle.controller.proofs.table.Statement.{statement}
+use Rattle.controller.proofs.table.Tie as tie
+
+read-requires : tie.Need-read-requires
+read-requires c κs = search needs
+
+enum-known-verdict : tie.Need-enum-known-verdict
+enum-known-verdict c = search needs
+
+enum-told : tie.Need-enum-told
+enum-told c = search needs
+
+table-requires : tie.Need-table-requires
+table-requires c κs =
+    let at-enum-told = c .before in
+    let at-read = at-enum-told .before .before .before in
+    read-sown _ (at-read .read .result) (at-read .read .ensures) (at-enum-told .enum-told .given .1) .valid
+
+returns : tie.Need-returns
+returns c =
+    let at-verdict = c .before in
+    let at-read = at-verdict .before .before .before in
+    let start = at-read .before .before .before in
+    sym (sheet-refused _ _ (now (start .args .sheet)) (at-read .read .result) (at-read .read .ensures) _ _ (at-verdict .verdict .given .1))
+
+same-length : tie.Need-same-length
+same-length c = search needs
+
+returns-2 : tie.Need-returns-2
+returns-2 c =
+    let at-table = c .before .before in
+    let at-enum-told = at-table .before .before in
+    let at-read = at-enum-told .before .before .before in
+    let start = at-read .before .before .before in
+    at-table .table .ensures ∙ sym (sheet-accepted (λ number value. (Refused number value, now (start .args .rows))) (λ s. tabled s (now (start .args .rows))) (now (start .args .sheet)) (at-read .read .result) (at-read .read .ensures) (at-enum-told .enum-told .given .1))
+
+pub table-spec : {M : Type 1} → statement M
+table-spec =
+    tie.close
+    (tie.spec
+    read-requires
+    enum-known-verdict
+    enum-told
+    table-requires
+    returns
+    same-length
+    returns-2)
