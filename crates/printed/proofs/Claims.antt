@@ -1,0 +1,28 @@
+-- The proofs of `specs/Claims.antt`, in its order.
+use mathlib.Core.Path.{_≡_, refl}
+use mathlib.Core.List.{List, _++_}
+use Prim.Native.Nat.{ℕ, _≤_}
+use lib.ListN.{length}
+use Rattle.leb128.specs.Groups.{encode, overGroups, overIn}
+use Rattle.leb128.specs.Forms.{decode, decodeFrom, below}
+use Rattle.season.specs.Rules.{ramp, rampZ}
+use Rattle.season.specs.Calendar.{nextDay, daysOn}
+use Rattle.season.specs.Day.{dateOf, kcOf, cropNeed, rainOn}
+use Rattle.verdict.specs.Refusals.{orRefused}
+use Rattle.decades.specs.Table.{dayRow, withDay, rowsTo, six, flat}
+use Rattle.sheet.specs.Numbers.{before, numbers, ended, numbersRead, written}
+use Rattle.sheet.specs.Fields.{outside, lowestOutside}
+use Rattle.sheet.specs.Sheets.{fieldsVerdict, sheetOf}
+use Rattle.sheet.proofs.Start as start
+use Rattle.controller.specs.Calls.{onSheet}
+use Rattle.printed.specs.Text.{decimalIn, decimal, ending, cells, printed}
+use Rattle.printed.specs.Cases.{cases}
+use Rattle.printed.specs.Claims.{Claims}
+
+first-bytes-decide : (t y : List ℕ) → 121 ≤ length t → printed (t ++ y) ≡ printed t
+unfolding onSheet
+first-bytes-decide t y h = rw (start.first-bytes-decide t y h)
+
+pub claims : Claims
+unfolding encode overGroups overIn decode decodeFrom below ramp rampZ nextDay daysOn dateOf kcOf cropNeed rainOn orRefused dayRow withDay rowsTo six flat before numbers ended numbersRead written outside lowestOutside fieldsVerdict sheetOf decimalIn decimal ending cells onSheet cases
+claims = record { first-bytes-decide = first-bytes-decide; cases-hold = refl }
