@@ -1,14 +1,16 @@
 -- A season day is carried on to the next: within a month its month's numbers stay, and over a month's end they change.
 use mathlib.Core.Path.{_≡_, sym, _∙_, ap}
-use Prim.Native.Nat.{ℕ, _+_, _-_, _≤_, _<_}
+use Prim.Native.Nat.{ℕ, _+_, _-_, _*_, _≤_, _<_}
+use native.Mathlib.Nat.{mul-le-mul-left}
 use native.Mathlib.Omega.{arith}
 use Rattle.season.specs.declared.Season.{Season}
 use Rattle.season.specs.declared.Date.{Date}
 use Rattle.season.specs.declared.SeasonDay.{SeasonDay}
 use Rattle.season.specs.Calendar.{monthDays, monthAfter, dateIs, nextDay, daysOn}
-use Rattle.season.specs.Sheet.{Valid}
-use Rattle.season.specs.Rules.{plannedRain}
+use Rattle.season.specs.Sheet.{Valid, DayOf}
+use Rattle.season.specs.Rules.{rainTo, plannedRain}
 use Rattle.season.specs.Day.{etoIn, dateOf, rainOn, onDate, dayOf, OnDay}
+use Rattle.season.proofs.Laws.{quotient-up}
 use Rattle.season.proofs.Calendar.{Proper, on-add, next-in, next-over, days-high}
 use Rattle.season.proofs.Bounds.{date-proper, effective-le}
 
@@ -19,6 +21,16 @@ date-next s i h =
     let start = dateIs (s .month) (s .first) in
     let e : i + 1 - 1 ≡ (i - 1) + 1 = omega arith in
     ap (daysOn start) e ∙ on-add start (i - 1) 1
+
+-- What was made as season day i is that day.
+pub number-is : (s : Season) (t : SeasonDay) (i : ℕ) → t ≡ dayOf s i → t .number ≡ i
+unfolding dayOf
+number-is s t i e = ap (λ (d : SeasonDay). d .number) e
+
+pub on-day : (s : Season) (t : SeasonDay) (i : ℕ) → DayOf s i → t ≡ dayOf s i → OnDay s t
+on-day s t i d e =
+    let n : t .number ≡ i = number-is s t i e in
+    record { is = e ∙ ap (dayOf s) (sym n); of = rw n d }
 
 module _ {s : Season} {t : SeasonDay} (v : Valid s) (o : OnDay s t) where
   -- The day's own month, day and length are those of its date, which the calendar has.
@@ -47,6 +59,12 @@ module _ {s : Season} {t : SeasonDay} (v : Valid s) (o : OnDay s t) where
   pub rain-is : plannedRain (t .effective) (t .day) (t .length) ≡ rainOn s (t .number)
   unfolding dayOf rainOn
   rain-is = ap (λ (d : SeasonDay). plannedRain (d .effective) (d .day) (d .length)) (o .is)
+
+  -- The month's planned rain grows with its days.
+  pub rain-grows : rainTo (t .effective) (t .day - 1) (t .length) ≤ rainTo (t .effective) (t .day) (t .length)
+  rain-grows =
+      let d = day-small in
+      quotient-up (t .effective * (t .day - 1)) (t .effective * t .day) (t .length) (omega (arith, d)) (mul-le-mul-left (t .effective) (omega arith))
 
   pub eto-is : t .eto ≡ etoIn s (dateOf s (t .number) .month)
   unfolding dayOf

@@ -3,7 +3,7 @@
 ghost use mathlib.Core.Path.{_≡_};
 ghost use Prim.Native.Nat.{_+_, _-_, _*_, _≤_, _<_, min};
 ghost use Rattle.season.specs.Calendar.{monthDays, monthAfter, dateIs};
-ghost use Rattle.season.specs.Sheet.{Ranged, Valid, DayOf, seasonDays, isTurn};
+ghost use Rattle.season.specs.Sheet.{Ranged, Valid, DayOf, seasonDays};
 ghost use Rattle.season.specs.Rules.{ramp, nearest, effectiveRain, rainTo};
 ghost use Rattle.season.specs.Day.{dateOf, kcOf, cropNeed, rootOn, totalOn, readyOn, onDate, dayOf, OnDay};
 ghost use Rattle.season.specs.Closing.{wanted, closeDay, Closable};
@@ -92,6 +92,14 @@ fn nearest_of(top: u32, bottom: u32) -> u32
     (2 * top + bottom) / (2 * bottom)
 }
 
+// The same over a hundred, a constant, which costs no division.
+fn nearest_hundredth(top: u32) -> u32
+    requires { ⌜ top < 4294967246 ⌝ }
+    ensures { λ r. ⌜ r ≡ nearest top 100 ⌝ }
+{
+    (top + 50) / 100
+}
+
 // ---- the sheet
 
 // n.
@@ -100,14 +108,6 @@ pub fn season_days(s: Season) -> u32
     ensures { λ r. ⌜ r ≡ seasonDays s ⌝ }
 {
     s.initial + s.development + s.middle + s.late
-}
-
-// Whether a season day is a turn day.
-pub fn turn_on(turns: u32, day: u32) -> bool
-    requires { ⌜ 1 ≤ day ⌝ }
-    ensures { λ r. ⌜ r ≡ isTurn turns day ⌝ }
-{
-    (turns >> ((day - 1) % 7)) & 1 == 1
 }
 
 // ---- the calendar
@@ -200,7 +200,7 @@ pub fn crop_need(s: Season, t: SeasonDay) -> u32
     let kc = kc_of(s, t.number);
     let top = t.eto * kc.top;
     if kc.bottom == 1 {
-        return nearest_of(top, 100);
+        return nearest_hundredth(top);
     }
     nearest_of(top, 100 * kc.bottom)
 }

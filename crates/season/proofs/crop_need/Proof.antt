@@ -16,8 +16,8 @@ mul-top c =
     let start = at-kc-of .before in
     record { fits = rw (eto-is (start .pre .0) (start .pre .1), at-kc-of .kc-of .ensures) (omega (arith, weighed (start .args .s) (start .args .t .number) (start .pre .0) (start .pre .1 .of), kc-small (start .args .s) (start .args .t .number) (start .pre .0) (start .pre .1 .of))) }
 
-nearest-of-requires : tie.Need-nearest-of-requires
-nearest-of-requires c κs =
+nearest-hundredth-requires : tie.Need-nearest-hundredth-requires
+nearest-hundredth-requires c κs =
     let at-kc-of = c .before .before .before .before in
     let start = at-kc-of .before in
     rw (eto-is (start .pre .0) (start .pre .1), at-kc-of .kc-of .ensures) (omega (arith, weighed (start .args .s) (start .args .t .number) (start .pre .0) (start .pre .1 .of), kc-small (start .args .s) (start .args .t .number) (start .pre .0) (start .pre .1 .of)))
@@ -28,7 +28,7 @@ returns c =
     let at-if1 = c .before in
     let at-kc-of = at-if1 .before .before .before .before in
     let start = at-kc-of .before in
-    rw (c .nearest-of .ensures, eto-is (start .pre .0) (start .pre .1), ← (at-kc-of .kc-of .ensures), at-if1 .if1 .taken)
+    rw (c .nearest-hundredth .ensures, eto-is (start .pre .0) (start .pre .1), ← (at-kc-of .kc-of .ensures), at-if1 .if1 .taken)
 
 mul-nearest-of : tie.Need-mul-nearest-of
 mul-nearest-of c =
@@ -36,8 +36,8 @@ mul-nearest-of c =
     let start = at-kc-of .before in
     record { fits = rw (at-kc-of .kc-of .ensures) (omega (arith, kc-small (start .args .s) (start .args .t .number) (start .pre .0) (start .pre .1 .of))) }
 
-nearest-of-requires-2 : tie.Need-nearest-of-requires-2
-nearest-of-requires-2 c κs =
+nearest-of-requires : tie.Need-nearest-of-requires
+nearest-of-requires c κs =
     let at-kc-of = c .before .before .before .before .before in
     let start = at-kc-of .before in
     rw (eto-is (start .pre .0) (start .pre .1), at-kc-of .kc-of .ensures) (omega (arith, weighed (start .args .s) (start .args .t .number) (start .pre .0) (start .pre .1 .of), kc-small (start .args .s) (start .args .t .number) (start .pre .0) (start .pre .1 .of)))
@@ -47,7 +47,7 @@ unfolding cropNeed
 returns-2 c =
     let at-kc-of = c .before .before .before .before .before .before in
     let start = at-kc-of .before in
-    rw (c .nearest-of2 .ensures, eto-is (start .pre .0) (start .pre .1), ← (at-kc-of .kc-of .ensures))
+    rw (c .nearest-of .ensures, eto-is (start .pre .0) (start .pre .1), ← (at-kc-of .kc-of .ensures))
 
 pub crop-need-spec : {M : Type 1} → statement M
 crop-need-spec =
@@ -55,8 +55,8 @@ crop-need-spec =
     (tie.spec
     kc-of-requires
     mul-top
-    nearest-of-requires
+    nearest-hundredth-requires
     returns
     mul-nearest-of
-    nearest-of-requires-2
+    nearest-of-requires
     returns-2)
