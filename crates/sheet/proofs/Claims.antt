@@ -14,12 +14,14 @@ use Rattle.sheet.proofs.Accepted.{accepted-sown, is-accepted}
 use Rattle.sheet.proofs.Written.{written-accepted}
 use Rattle.sheet.proofs.Lengths.{accepted-length}
 use Rattle.sheet.proofs.Start.{first-bytes-decide}
+use Rattle.sheet.proofs.Numbered.{refused-number}
 
 pub claims : Claims
 unfolding encode overGroups overIn decode decodeFrom below orRefused before numbers ended numbersRead written outside lowestOutside fieldsVerdict sheetOf cases season.small
 claims = record {
   accepted-sown = accepted-sown;
   refused-empty = refused-empty;
+  refused-number = refused-number;
   written-accepted = written-accepted;
   accepted-as-written = λ b bytes e. is-accepted b e .as-written bytes;
   accepted-length = accepted-length;

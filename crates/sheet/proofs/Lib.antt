@@ -6,4 +6,5 @@ pub mod Written
 pub mod Accepted
 pub mod Lengths
 pub mod Start
+pub mod Numbered
 pub mod Claims

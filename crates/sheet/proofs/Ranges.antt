@@ -1,7 +1,7 @@
 -- Numbers of which none is outside its limits: each is within them, and the season that they make is in its ranges.
 use Prim.Native.Nat.{ℕ, zero, suc, _+_, _-_, _^_, _≤_, _<_}
 use mathlib.Core.Path.{_≡_, refl, sym, ap, _∙_}
-use mathlib.Core.Bool.{Bool, true, false, _||_}
+use mathlib.Core.Bool.{Bool, true, false, _||_, true≢false}
 use mathlib.Core.List.{List, [], _∷_}
 use native.Mathlib.Nat.{le-of-suc-le-suc, not-suc-le-zero}
 use native.Mathlib.Omega.{arith}
@@ -25,10 +25,7 @@ pub record Inside (l : Limit) (x : ℕ) : Type 0 where
 
 or-false : (a b : Bool) → (a || b) ≡ false → (a ≡ false) × (b ≡ false)
 or-false false b e = (refl, e)
-or-false true b e = absurd (let z : _≡_ {A = Bool} true false = e in true-false z)
-  where
-    true-false : true ≡ false → ⊥
-    true-false z = let q : _≡_ {A = ℕ} 0 1 = cc in omega arith
+or-false true b e = absurd (true≢false e)
 
 pub inside : (l : Limit) (x : ℕ) → outside l x ≡ false → Inside l x
 unfolding outside

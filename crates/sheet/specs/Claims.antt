@@ -17,6 +17,8 @@ pub record Claims : Type 0 where
   pub accepted-sown : (b : List ℕ) → sheetOf b .verdict ≡ Accepted → Sown (sheetOf b .season)
   -- A refused sheet's numbers are all 0.
   pub refused-empty : (b : List ℕ) (number value : ℕ) → sheetOf b .verdict ≡ Refused number value → sheetOf b ≡ refusal number value
+  -- Its refusal is one of 1 to 7.
+  pub refused-number : (b : List ℕ) (number value : ℕ) → sheetOf b .verdict ≡ Refused number value → (1 ≤ number) × (number ≤ 7)
   -- Forty numbers that refusals 4 to 7 leave, written one after another, are accepted as those numbers.
   pub written-accepted : (vs : List ℕ) → length vs ≡ 40 → fieldsVerdict vs ≡ Accepted
       → sheetOf (written vs) ≡ record { season = seasonOf vs; verdict = Accepted }
