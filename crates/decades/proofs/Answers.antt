@@ -1,5 +1,5 @@
 -- The two answers of a table: refusal 15, or the rows.
-use mathlib.Core.Path.{_≡_, refl, sym}
+use mathlib.Core.Path.{_≡_, refl, sym, ap}
 use mathlib.Core.Bool.{Bool, true, false, cond}
 use mathlib.Core.List.{List, _++_}
 use Prim.Native.Nat.{ℕ, _*_, _<_, _≤_}
@@ -12,7 +12,6 @@ use Rattle.season.specs.Sheet.{Valid}
 use Rattle.decades.specs.declared.Tabled.{Tabled}
 use Rattle.decades.specs.declared.Tabled.the-variants.{Rows, Refused}
 use Rattle.decades.specs.Table.{rowCount, table, tabled, numbersOf}
-use Rattle.decades.specs.Claims.{Occurs}
 use Rattle.decades.proofs.Count.{rows-at-most}
 
 pub tabled-short : (s : Season) (out : List ℕ) → length out < rowCount s * 6 → tabled s out ≡ (Refused 15 0, out)
@@ -46,16 +45,8 @@ tabled-rows-at-most s out k v = go (ltb (length out) (rowCount s * 6))
     go true e = absurd (rows-refused k 15 0 (sym e))
     go false e = let n : rowCount s ≡ k = cc in omega (arith, rows-at-most s v)
 
-pub answer-occurs : (s : Season) (out : List ℕ) → Occurs (tabled s out .0)
-unfolding tabled
-answer-occurs s out = go (ltb (length out) (rowCount s * 6))
-  where
-    go : (b : Bool) → Occurs (byTest s out b .0)
-    go true = refl
-    go false = tt
-
-pub numbers-one-to-one : (a b : Tabled) → Occurs a → Occurs b → numbersOf a ≡ numbersOf b → a ≡ b
-numbers-one-to-one (Rows k) (Rows l) p q e = let h : k ≡ l = cc in rw h
-numbers-one-to-one (Rows k) (Refused n v) p q e = let h : 0 ≡ n = cc in absurd (omega arith)
-numbers-one-to-one (Refused n v) (Rows k) p q e = let h : n ≡ 0 = cc in absurd (omega arith)
-numbers-one-to-one (Refused n v) (Refused m w) p q e = let h : n ≡ m = cc in let g : v ≡ w = cc in rw (h, g)
+pub numbers-one-to-one : (a b : Tabled) → numbersOf a ≡ numbersOf b → a ≡ b
+numbers-one-to-one (Rows k) (Rows l) e = let h : k ≡ l = cc in rw h
+numbers-one-to-one (Rows k) (Refused n v) e = absurd (omega (arith, ap length e))
+numbers-one-to-one (Refused n v) (Rows k) e = absurd (omega (arith, ap length e))
+numbers-one-to-one (Refused n v) (Refused m w) e = let h : n ≡ m = cc in let g : v ≡ w = cc in rw (h, g)

@@ -8,14 +8,13 @@ use Rattle.decades.specs.Table.{dayRow, withDay, rowsTo, six, flat, tabl
 use Rattle.decades.specs.Cases.{cases}
 use Rattle.decades.specs.Claims.{Claims}
 use Rattle.decades.proofs.Count.{rows-at-most}
-use Rattle.decades.proofs.Answers.{refused-unaltered, answer-occurs, numbers-one-to-one}
+use Rattle.decades.proofs.Answers.{refused-unaltered, numbers-one-to-one}
 
 pub claims : Claims
 unfolding cases small tabled rowsTo withDay dayRow six flat dateOf kcOf cropNeed rainOn nextDay daysOn ramp rampZ
 claims = record {
   rows-at-most = rows-at-most;
   refused-unaltered = refused-unaltered;
-  answer-occurs = answer-occurs;
   numbers-one-to-one = numbers-one-to-one;
   cases-hold = refl;
 }

@@ -7,9 +7,7 @@ use mathlib.Core.Logic.{inl, inr}
 use Prim.Native.Nat.{ℕ, zero, suc, _+_, _-_, _*_, _/_, _%_, _≤_, _<_}
 use native.Mathlib.Numerals.{add-one}
 use native.Mathlib.Omega.{arith}
-use lib.Dec.{eqb}
 use lib.ListN.{length}
-use borrow.Author.Tests.{eqb-true}
 use Rattle.season.specs.declared.Season.{Season}
 use Rattle.season.specs.declared.Date.{Date}
 use Rattle.season.specs.declared.SeasonDay.{SeasonDay}
@@ -22,22 +20,12 @@ use Rattle.season.proofs.Bounds.{date-proper}
 use Rattle.season.proofs.Days.{date-next}
 use Rattle.decades.specs.declared.Row.{Row}
 use Rattle.decades.specs.Table.{decadeOf, dayRow, sameDecade, withDay, rowsTo, rowCount}
-use Rattle.decades.proofs.Year.{yearDay, yearDecade, decade-within, year-order, year-before, year-after, year-within, sameDates, fresh, Next, next}
+use Rattle.decades.proofs.Year.{yearDay, yearDecade, decade-within, year-order, year-before, year-after, year-within, both-same, sameDates, fresh, Next, next}
 
 -- The latest row is of a day's decade.
 abbrev Heads : Date → List Row → Type 0
 Heads t [] = ⊥
 Heads t (q ∷ qs) = (q .month ≡ t .month) × (q .decade ≡ decadeOf (t .day))
-
-false-true : false ≡ true → ⊥
-false-true z = let q : _≡_ {A = ℕ} 0 1 = cc in omega arith
-
-same-dates : (t u : Date) → sameDates t u ≡ true → (t .month ≡ u .month) × (decadeOf (t .day) ≡ decadeOf (u .day))
-same-dates t u e = go (eqb (t .month) (u .month)) refl
-  where
-    go : (b : Bool) → eqb (t .month) (u .month) ≡ b → (t .month ≡ u .month) × (decadeOf (t .day) ≡ decadeOf (u .day))
-    go true m = (eqb-true _ _ m, eqb-true _ _ (rw m at e))
-    go false m = absurd (false-true (rw m at e))
 
 with-next : (t u : Date) (qs : List Row) (r : Row) → Heads t qs → r .month ≡ u .month → r .decade ≡ decadeOf (u .day)
     → Heads u (withDay qs r) × (length (withDay qs r) ≡ length qs + fresh t u)
@@ -50,7 +38,7 @@ with-next t u (q ∷ qs) r h m d = go (sameDates t u) refl
 
     go : (b : Bool) → sameDates t u ≡ b → Heads u (withDay (q ∷ qs) r) × (length (withDay (q ∷ qs) r) ≡ length (q ∷ qs) + fresh t u)
     go true e =
-        let s = same-dates t u e in
+        let s = both-same (t .month) (decadeOf (t .day)) (u .month) (decadeOf (u .day)) e in
         rw (same ∙ e, e) ((h .0 ∙ s .0, h .1 ∙ s .1), omega arith)
     go false e = rw (same ∙ e, e) ((m, d), omega arith)
 

@@ -3,14 +3,13 @@ use mathlib.Core.Path.{_≡_, refl, sym, _∙_, ap}
 use mathlib.Core.Bool.{Bool, true, false}
 use mathlib.Core.List.{List, [], _∷_, _++_}
 use Prim.Native.Nat.{ℕ, suc, _+_, _-_, _*_, _<_, _≤_}
-use native.Mathlib.Nat.{le-refl, le-trans, mul-le-mul-left}
+use native.Mathlib.Nat.{le-refl, le-trans}
 use native.Mathlib.Numerals.{add-one}
 use native.Mathlib.Decide.{le-ind}
 use native.Mathlib.Omega.{arith}
-use lib.Dec.{eqb}
 use lib.ListN.{length, drop, length-append, length-drop}
 use lib.Seq.{sets, sets-eq, take-at, drop-append-add, drop-drop}
-use borrow.Author.Tests.{eqb-true, lt-ltb, le-ltb}
+use borrow.Author.Tests.{lt-ltb, le-ltb}
 use Rattle.season.specs.declared.Season.{Season}
 use Rattle.season.specs.declared.SeasonDay.{SeasonDay}
 use Rattle.season.specs.Calendar.{monthAfter}
@@ -18,12 +17,12 @@ use Rattle.season.specs.Sheet.{Valid, DayOf, seasonDays}
 use Rattle.season.specs.Rules.{rainTo}
 use Rattle.season.specs.Day.{cropNeed, rainOn, dayOf, OnDay}
 use Rattle.season.proofs.Whole.{by-order}
-use Rattle.season.proofs.Laws.{quotient-up}
 use Rattle.season.proofs.Bounds.{need-le}
-use Rattle.season.proofs.Days.{day-proper, day-small, effective-at-most, next-inside, next-month}
+use Rattle.season.proofs.Days.{number-is, on-day, day-proper, day-small, effective-at-most, rain-grows, next-inside, next-month}
 use Rattle.decades.specs.declared.Row.{Row}
 use Rattle.decades.specs.Table.{decadeOf, dayRow, sameDecade, joined, withDay, rowsTo, rowCount, six, flat, table}
 use Rattle.decades.specs.OpenRow.{rowOf, RainDay}
+use Rattle.decades.proofs.Year.{both-same}
 use Rattle.decades.proofs.Count.{rows-at-most}
 
 -- ---- the rows of the definition
@@ -87,31 +86,11 @@ rain-day v o =
 pub first-day : {s : Season} → Valid s → DayOf s 1
 first-day v = record { from = omega arith; to = omega (arith, v .ranges .initial .low≤) }
 
-pub number-is : (s : Season) (t : SeasonDay) (i : ℕ) → t ≡ dayOf s i → t .number ≡ i
-unfolding dayOf
-number-is s t i e = ap (λ (d : SeasonDay). d .number) e
-
--- What was made as season day i is that day.
-pub on-day : (s : Season) (t : SeasonDay) (i : ℕ) → DayOf s i → t ≡ dayOf s i → OnDay s t
-on-day s t i d e =
-    let n : t .number ≡ i = number-is s t i e in
-    record { is = e ∙ ap (dayOf s) (sym n); of = rw n d }
-
 -- A row of one day.
 day-row : {s : Season} {t : SeasonDay} → OnDay s t → dayRow s (t .number) ≡ rowOf t (cropNeed s (t .number)) (rainTo (t .effective) (t .day - 1) (t .length))
 unfolding dayRow dayOf rainOn
 day-row {s} {t} o =
     sym (ap (λ (d : SeasonDay). rowOf d (cropNeed s (t .number)) (rainTo (d .effective) (d .day - 1) (d .length))) (o .is))
-
-true-false : false ≡ true → ⊥
-true-false z = let q : _≡_ {A = ℕ} 0 1 = cc in omega arith
-
-both-same : (month decade m d : ℕ) → sameDecade month decade m d ≡ true → (month ≡ m) × (decade ≡ d)
-both-same month decade m d e = go (eqb month m) refl
-  where
-    go : (b : Bool) → eqb month m ≡ b → (month ≡ m) × (decade ≡ d)
-    go true h = (eqb-true _ _ h, eqb-true _ _ (rw h at e))
-    go false h = absurd (true-false (rw h at e))
 
 other-month : (m : ℕ) → m ≤ 12 → m ≡ monthAfter m → ⊥
 other-month m h e =
@@ -149,10 +128,6 @@ pub record Rows (s : Season) (n : ℕ) (t : SeasonDay) (at need before : ℕ) : 
   pub least : before ≤ rainTo (t .effective) (t .day) (t .length)
   pub small : need ≤ t .number * 3000
 
-before-at-most : {s : Season} {t : SeasonDay} → Valid s → OnDay s t → rainTo (t .effective) (t .day - 1) (t .length) ≤ rainTo (t .effective) (t .day) (t .length)
-before-at-most {s} {t} v o =
-    quotient-up (t .effective * (t .day - 1)) (t .effective * t .day) (t .length) (omega (arith, day-small v o)) (mul-le-mul-left (t .effective) (omega arith))
-
 rain-back : {t u : SeasonDay} → DayOn t u → rainTo (u .effective) (u .day - 1) (u .length) ≡ rainTo (t .effective) (t .day) (t .length)
 rain-back {t} {u} o =
     let d : u .day - 1 ≡ t .day = omega (arith, o .day) in
@@ -173,7 +148,7 @@ rows-start {s} {n} {need} {before} {t} v e d nd b =
       season = e;
       is = f ∙ ap (λ (qs : List Row). rowOf t need before ∷ rest qs) (sym f);
       count = ap (λ (qs : List Row). length (rest qs) * 6) (sym f);
-      least = rw b (before-at-most v o);
+      least = rw b (rain-grows v o);
       small = omega (arith, need-le s (t .number) v (o .of));
     }
 
@@ -219,7 +194,7 @@ module _ {s : Season} {n at need before : ℕ} {t : SeasonDay} (w : Rows s n t a
         let f = same-row s (t .number) _ _ _ (w .is) alone q in
         let same = both-same _ _ _ _ q in
         let on = month-on (w .valid) (w .on) e (same .0) in
-        let up = before-at-most (w .valid) next-on in
+        let up = rain-grows (w .valid) next-on in
         let back : rainTo (u .effective) (u .day - 1) (u .length) ≡ rainTo (t .effective) (t .day) (t .length) = rain-back on in
         let sum : (rainTo (t .effective) (t .day) (t .length) - before) + (rainTo (u .effective) (u .day) (u .length) - rainTo (u .effective) (u .day - 1) (u .length)) ≡ rainTo (u .effective) (u .day) (u .length) - before = rains (w .least) up back in
         let g : joined (rowOf t need before) (rowOf u more (rainTo (u .effective) (u .day - 1) (u .length))) ≡ rowOf u (need + more) before = (λ i. record { month = same .0 i; decade = same .1 i; need = need + more; rain = sum i }) in
@@ -245,7 +220,7 @@ module _ {s : Season} {n at need before : ℕ} {t : SeasonDay} (w : Rows s n t a
           season = w .season;
           is = f ∙ ap (λ (qs : List Row). rowOf u more b ∷ rest qs) (sym f);
           count = omega (arith, w .count, ap (λ (qs : List Row). length (rest qs) * 6) f);
-          least = rw r (before-at-most (w .valid) next-on);
+          least = rw r (rain-grows (w .valid) next-on);
           small = omega (arith, more-at-most, next-number);
         }
 

@@ -1,13 +1,13 @@
 -- The days of the year and its decades: how they go on from day to day.
 use mathlib.Core.Path.{_≡_, refl, sym, _∙_, ap}
-use mathlib.Core.Bool.{Bool, true, cond}
+use mathlib.Core.Bool.{Bool, true, false, cond, true≢false}
 use mathlib.Core.List.{List, [], _∷_}
 use mathlib.Core.Logic.{_⊎_, inl, inr}
 use Prim.Native.Nat.{ℕ, zero, suc, _+_, _-_, _*_, _≤_, _<_}
 use native.Mathlib.Omega.{arith}
 use lib.Dec.{T, leb, eqb, leb→le, eqb→eq}
 use lib.ListN.{getD}
-use borrow.Author.Tests.{le-leb, lt-leb, lt-ltb, eq-eqb, ne-eqb}
+use borrow.Author.Tests.{le-leb, lt-leb, lt-ltb, eq-eqb, ne-eqb, eqb-true}
 use Rattle.season.specs.declared.Date.{Date}
 use Rattle.season.specs.Calendar.{lengths, monthDays, dateIs, nextDay}
 use Rattle.season.proofs.Each.{both, both-left, both-right}
@@ -90,6 +90,14 @@ year-order a b p q h =
     omega (arith, decade-up (a .day) (b .day) (omega (arith, p .day-low, q .day-low))))
     (λ m. absurd (omega (arith, offset-order (b .month - 1) (a .month - 1) (omega (arith, p .month-low, q .month-low)) (omega (arith, p .month-high)), q .day-high, p .day-low, q .day-low))))
     (λ l. omega (arith, decade-within (a .day), decade-within (b .day)))
+
+-- The same month and decade.
+pub both-same : (month decade m d : ℕ) → sameDecade month decade m d ≡ true → (month ≡ m) × (decade ≡ d)
+both-same month decade m d e = go (eqb month m) refl
+  where
+    go : (b : Bool) → eqb month m ≡ b → (month ≡ m) × (decade ≡ d)
+    go true h = (eqb-true _ _ h, eqb-true _ _ (rw h at e))
+    go false h = absurd (true≢false (sym (rw h at e)))
 
 -- 1 where the second day is of another decade of the calendar than the first, and else 0.
 abbrev pub sameDates : Date → Date → Bool

@@ -5,22 +5,16 @@ use Prim.Native.Nat.{ℕ, _≤_}
 use Rattle.season.specs.declared.Season.{Season}
 use Rattle.season.specs.Sheet.{Valid}
 use Rattle.decades.specs.declared.Tabled.{Tabled}
-use Rattle.decades.specs.declared.Tabled.the-variants.{Rows, Refused}
+use Rattle.decades.specs.declared.Tabled.the-variants.{Refused}
 use Rattle.decades.specs.Table.{rowCount, tabled, numbersOf}
 use Rattle.decades.specs.Cases.{cases}
-
--- An answer that can occur: the only refusal is 15.
-abbrev pub Occurs : Tabled → Type 0
-Occurs (Rows count) = Unit {0}
-Occurs (Refused number value) = number ≡ 15
 
 pub record Claims : Type 0 where
   -- A table has at most 37 rows.
   pub rows-at-most : (s : Season) → Valid s → rowCount s ≤ 37
   -- A refused call leaves the buffer as it was.
   pub refused-unaltered : (s : Season) (out : List ℕ) (number value : ℕ) → tabled s out .0 ≡ Refused number value → tabled s out .1 ≡ out
-  -- Answers and their numbers match one to one.
-  pub answer-occurs : (s : Season) (out : List ℕ) → Occurs (tabled s out .0)
-  pub numbers-one-to-one : (a b : Tabled) → Occurs a → Occurs b → numbersOf a ≡ numbersOf b → a ≡ b
+  -- Different answers have different numbers.
+  pub numbers-one-to-one : (a b : Tabled) → numbersOf a ≡ numbersOf b → a ≡ b
   -- The cases.
   pub cases-hold : map (λ (c : List ℕ × List ℕ). c .0) cases ≡ map (λ (c : List ℕ × List ℕ). c .1) cases

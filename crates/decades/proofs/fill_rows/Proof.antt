@@ -2,7 +2,8 @@
 use mathlib.Core.Path.{sym, _∙_}
 use Prim.Native.Nat.{_-_}
 use native.Mathlib.Omega.{arith}
-use Rattle.decades.proofs.Rows.{Filling, rain-day, first-day, number-is, on-day, next-of, need-small, more-at-most, rows-many, filling-start, filling-length, filling-rain, filling-room, filling-same, filling-new, filling-end}
+use Rattle.season.proofs.Days.{number-is, on-day}
+use Rattle.decades.proofs.Rows.{Filling, rain-day, first-day, next-of, need-small, more-at-most, rows-many, filling-start, filling-length, filling-rain, filling-room, filling-same, filling-new, filling-end}
 use Rattle.decades.proofs.fill_rows.Statement.{statement}
 use Rattle.decades.proofs.fill_rows.Tie as tie
 
