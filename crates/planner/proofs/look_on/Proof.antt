@@ -1,0 +1,25 @@
+-- Each field is what its callee ensures.
+use native.Mathlib.Omega.{arith}
+use borrow.Author.Needs.{needs}
+use Rattle.planner.proofs.look_on.Statement.{statement}
+use Rattle.planner.proofs.look_on.Tie as tie
+
+crop-need-requires : tie.Need-crop-need-requires
+crop-need-requires c κs = search needs
+
+ready-water-requires : tie.Need-ready-water-requires
+ready-water-requires c κs = search needs
+
+water-on-requires : tie.Need-water-on-requires
+water-on-requires c κs = search needs
+
+turn-in-requires : tie.Need-turn-in-requires
+turn-in-requires c κs = omega (arith, c .before .before .before .pre .1 .1 .1)
+
+returns : tie.Need-returns
+returns c = cc
+
+pub look-on-spec : {M : Type 1} → statement M
+look-on-spec =
+    tie.close
+    (tie.spec crop-need-requires ready-water-requires water-on-requires turn-in-requires returns)

@@ -1,0 +1,8 @@
+-- Document 01, 'The plan', as definitions that the contracts cite; then the cases marked †, and what is proved.
+pub mod Choices
+pub mod Plan
+pub mod Outlook
+pub mod Carried
+pub mod Answer
+pub mod Cases
+pub mod Claims

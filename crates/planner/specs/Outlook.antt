@@ -1,0 +1,34 @@
+-- Document 01, 'The plan': what planning reads of a season and its ledger. `today` is the open day, `waiting` the water that waits on it.
+use mathlib.Core.Bool.{cond}
+use Prim.Native.Nat.{ℕ, _+_, _-_, _≤_}
+use lib.Dec.{eqb}
+use Rattle.season.specs.Sheet.{Valid, seasonDays, isTurn}
+use Rattle.season.specs.Day.{cropNeed, rainOn, readyOn}
+use Rattle.season.specs.declared.Season.{Season}
+use Rattle.planner.specs.declared.Look.{Look}
+use Rattle.planner.specs.Choices.{Outlook}
+
+-- Planned rain, and on the open day the waiting water in its place.
+abbrev pub outlook : Season → ℕ → ℕ → Outlook
+outlook s today waiting =
+    record {
+      water = λ i. cond (eqb i today) waiting (rainOn s i);
+      need = cropNeed s;
+      ready = readyOn s;
+      turn = isTurn (s .turns);
+    }
+
+-- What is read of one day.
+abbrev pub lookAt : Outlook → ℕ → Look
+lookAt o i = record { water = o .water i; need = o .need i; ready = o .ready i; turn = o .turn i }
+
+-- How many days are left from day d on.
+abbrev pub daysLeft : Season → ℕ → ℕ
+daysLeft s d = seasonDays s + 1 - d
+
+-- What a walk needs: a day of the season, or the one after it, and a depletion as the ledger has it.
+pub record Going (s : Season) (d D : ℕ) : Type 0 where
+  pub valid : Valid s
+  pub from : 1 ≤ d
+  pub to : d ≤ seasonDays s + 1
+  pub depletion : D ≤ 120000

@@ -1,0 +1,263 @@
+// The plan of a season's remaining waterings: document 01, 'The plan'. Depths are points.
+use season::Gross;
+use season::Net;
+use season::Season;
+use season::SeasonDay;
+ghost use mathlib.Core.Path.{_≡_};
+ghost use mathlib.Core.Bool.{cond};
+ghost use mathlib.Core.List.{_++_};
+ghost use Prim.Native.Nat.{_+_, _-_, _%_, _≤_, _<_};
+ghost use lib.ListN.{length, drop, replicate};
+ghost use lib.Dec.{eqb};
+ghost use Rattle.season.specs.Sheet.{Valid, DayOf};
+ghost use Rattle.season.specs.Day.{rainOn, dayOf, OnDay};
+ghost use Rattle.planner.specs.Choices.{irrigated};
+ghost use Rattle.planner.specs.Plan.{walk, watered, plan};
+ghost use Rattle.planner.specs.Outlook.{outlook, lookAt, daysLeft, Going};
+ghost use Rattle.planner.specs.Carried.{turnIn, walkIn};
+ghost use Rattle.planner.specs.Answer.{sum, netOf, settles, answerTo, answer};
+
+// A plan is made: how many depths are above 0, and the totals. Or it is refused: document 01's number, and the number returned with it.
+pub enum Planned {
+    Made(u32, Net, Gross),
+    Refused(u32, usize),
+}
+
+// What planning reads of a day.
+struct Look {
+    water: u32,
+    need: u32,
+    ready: u32,
+    turn: bool,
+}
+
+// Where a walk comes to: every day holds, or the first failing day, the latest turn day that is not after it, and the depth that brings
+// max(0, D − w) to zero that day. Where there is no turn day the depth is 0.
+enum Walked {
+    Held,
+    Fails(u32, SeasonDay, u32),
+}
+
+// The depths are made, or the day that no choice holds.
+enum Drawn {
+    Whole,
+    Lost(u32),
+}
+
+// ---- a planned day
+
+// On the open day waiting water stands in place of planned rain.
+fn water_on(today: u32, waiting: u32, day: u32, rain: u32) -> u32
+    ensures { λ r. ⌜ r ≡ cond (eqb day today) waiting rain ⌝ }
+{
+    if day == today { waiting } else { rain }
+}
+
+fn look_on(s: Season, today: u32, waiting: u32, t: SeasonDay, rain: u32, week: u32) -> Look
+    requires { ⌜ Valid s ⌝ }
+    requires { ⌜ OnDay s t ⌝ }
+    requires { ⌜ rain ≡ rainOn s (t .number) ⌝ }
+    requires { ⌜ week ≡ (t .number - 1) % 7 ⌝ }
+    ensures { λ r. ⌜ r ≡ lookAt (outlook s today waiting) (t .number) ⌝ }
+{
+    let need = season::crop_need(s, t);
+    let ready = season::ready_water(s, t.number);
+    Look {
+        water: water_on(today, waiting, t.number, rain),
+        need: need,
+        ready: ready,
+        turn: turn_in(s.turns, week),
+    }
+}
+
+// The planned-day rule: the depletion at the end of a day that has `left` once its water is in. No stress, and no ceiling.
+fn planned_day(left: u32, need: u32) -> u32
+    requires { ⌜ left + need < 4294967296 ⌝ }
+    ensures { λ r. ⌜ r ≡ left + need ⌝ }
+{
+    left + need
+}
+
+// Whether a season day is a turn day, by its day of the week: its number less 1, mod 7.
+fn turn_in(turns: u32, week: u32) -> bool
+    requires { ⌜ week < 7 ⌝ }
+    ensures { λ r. ⌜ r ≡ turnIn turns week ⌝ }
+{
+    (turns >> week) & 1 == 1
+}
+
+fn week_after(week: u32) -> u32
+    requires { ⌜ week < 7 ⌝ }
+    ensures { λ r. ⌜ r ≡ (week + 1) % 7 ⌝ }
+{
+    if week < 6 { week + 1 } else { 0 }
+}
+
+// What is planned in a month before this day of it, where `to` is planned up to the day before: nothing before the first.
+fn rain_before(day: u32, to: u32) -> u32
+    ensures { λ r. ⌜ r ≡ cond (eqb day 1) 0 to ⌝ }
+{
+    if day == 1 { 0 } else { to }
+}
+
+// ---- walks
+
+// The days from `from`, which starts at `start`, to the season's end, with no watering. The month's planned rain and the day of the
+// week are carried along.
+fn walk_on(s: Season, today: u32, waiting: u32, from: SeasonDay, start: u32) -> Walked
+    requires { ⌜ Going s (from .number) start ⌝ }
+    requires { ⌜ from ≡ dayOf s (from .number) ⌝ }
+    ensures { λ r. ⌜ r ≡ walkIn s (from .number) (walk (outlook s today waiting) (daysLeft s (from .number)) (from .number) start) ⌝ }
+{
+    let last = season::season_days(s);
+    let mut t = from;
+    let mut before = season::rain_to(from.effective, from.day - 1, from.length);
+    let mut week = (from.number - 1) % 7;
+    let mut depletion = start;
+    let mut turn = from;
+    let mut depth = 0;
+    while t.number <= last {
+        let to = season::rain_to(t.effective, t.day, t.length);
+        let look = look_on(s, today, waiting, t, to - before, week);
+        let left = season::less(depletion, look.water);
+        depletion = planned_day(left, look.need);
+        if look.turn {
+            turn = t;
+            depth = left;
+        }
+        if look.ready < depletion {
+            return Walked::Fails(t.number, turn, depth);
+        }
+        t = season::next_day(s, t);
+        before = rain_before(t.day, to);
+        week = week_after(week);
+    }
+    Walked::Held
+}
+
+// The walk once t is watered: t ends at its need, and turn days count from the day after.
+fn walk_watered(s: Season, today: u32, waiting: u32, t: SeasonDay) -> Walked
+    requires { ⌜ Valid s ⌝ }
+    requires { ⌜ OnDay s t ⌝ }
+    ensures { λ r. ⌜ r ≡ walkIn s (t .number + 1) (watered (outlook s today waiting) (daysLeft s (t .number + 1)) (t .number)) ⌝ }
+{
+    let next = season::next_day(s, t);
+    let end = planned_day(0, season::crop_need(s, t));
+    if season::ready_water(s, t.number) < end {
+        return Walked::Fails(t.number, next, 0);
+    }
+    walk_on(s, today, waiting, next, end)
+}
+
+// ---- the depths
+
+// The depths of the days from `today` on, where zeros stand at first: walk on to the first failing day, water its latest turn day, and
+// walk on from there. At most days + 7 × waterings day steps: turn days come round every seven days, so that a failing day is at most six
+// days after its turn day, and a watering has at most seven days stepped again.
+fn draw_depths(s: Season, today: u32, waiting: u32, start: u32, depths: &mut [u32]) -> Drawn
+    requires { ⌜ Valid s ⌝ }
+    requires { ⌜ DayOf s today ⌝ }
+    requires { ⌜ start ≤ 120000 ⌝ }
+    requires { ⌜ now depths ≡ replicate (daysLeft s today) 0 ⌝ }
+    ensures { λ r. ⌜ settles r (now (depths .exit)) ≡ plan (outlook s today waiting) (daysLeft s today) today start ⌝ }
+{
+    let mut walk = walk_on(s, today, waiting, season::day_of(s, today), start);
+    loop {
+        let Walked::Fails(failing, t, depth) = walk else {
+            return Drawn::Whole;
+        };
+        if depth == 0 {
+            return Drawn::Lost(failing);
+        }
+        let place = (t.number - today) as usize;
+        depths[place] = depth;
+        walk = walk_watered(s, today, waiting, t);
+    }
+}
+
+// ---- the answer
+
+// How many depths are above 0.
+fn irrigated_days(depths: &[u32]) -> u32
+    requires { ⌜ length (now depths) ≤ 365 ⌝ }
+    ensures { λ r. ⌜ r ≡ irrigated (now (depths .entry)) ⌝ }
+{
+    let mut days = 0;
+    let mut i: usize = 0;
+    while i < depths.len() {
+        let depth = depths[i];
+        i += 1;
+        if 0 < depth {
+            days += 1;
+        }
+    }
+    days
+}
+
+// The total of the depths.
+fn net_total(depths: &[u32]) -> Net
+    requires { ⌜ sum (now depths) < 4294967296 ⌝ }
+    ensures { λ r. ⌜ r ≡ netOf (now (depths .entry)) ⌝ }
+{
+    let mut total = 0;
+    let mut i: usize = 0;
+    while i < depths.len() {
+        total += depths[i];
+        i += 1;
+    }
+    Net(total)
+}
+
+// The depths to the start of a lent buffer. What stands beyond them stays.
+fn copy_depths(depths: &[u32], out: &mut [u32])
+    requires { ⌜ length (now depths) ≤ length (now out) ⌝ }
+    ensures { λ _. ⌜ now (out .exit) ≡ now (depths .entry) ++ drop (length (now (depths .entry))) (now (out .entry)) ⌝ }
+{
+    let mut i: usize = 0;
+    while i < depths.len() {
+        out[i] = depths[i];
+        i += 1;
+    }
+}
+
+// The plan, drawn in `draft`, where zeros stand at first. Only a plan that is made is copied to the lent buffer.
+fn answer_from(
+    s: Season,
+    today: u32,
+    depletion: u32,
+    waiting: u32,
+    draft: &mut [u32],
+    depths: &mut [u32],
+) -> Planned
+    requires { ⌜ Valid s ⌝ }
+    requires { ⌜ DayOf s today ⌝ }
+    requires { ⌜ depletion ≤ 120000 ⌝ }
+    requires { ⌜ now draft ≡ replicate (daysLeft s today) 0 ⌝ }
+    requires { ⌜ daysLeft s today ≤ length (now depths) ⌝ }
+    ensures { λ r. ⌜ (r, now (depths .exit)) ≡ answerTo (s .efficiency) (now (depths .entry)) (plan (outlook s today waiting) (daysLeft s today) today depletion) ⌝ }
+{
+    let drawn = draw_depths(s, today, waiting, depletion, draft);
+    if let Drawn::Lost(day) = drawn {
+        return Planned::Refused(16, day as usize);
+    }
+    let days = irrigated_days(draft);
+    let net = net_total(draft);
+    let gross = season::gross_of(s.efficiency, net);
+    copy_depths(draft, depths);
+    Planned::Made(days, net, gross)
+}
+
+// The plan from the open day to the season's end, starting at the ledger's depletion, with the water that waits on the open day.
+pub fn make_plan(s: Season, today: u32, depletion: u32, waiting: u32, depths: &mut [u32]) -> Planned
+    requires { ⌜ Valid s ⌝ }
+    requires { ⌜ DayOf s today ⌝ }
+    requires { ⌜ depletion ≤ 120000 ⌝ }
+    ensures { λ r. ⌜ (r, now (depths .exit)) ≡ answer s today depletion waiting (now (depths .entry)) ⌝ }
+{
+    let count = (season::season_days(s) + 1 - today) as usize;
+    if depths.len() < count {
+        return Planned::Refused(15, 0);
+    }
+    let mut draft = [0u32; 365];
+    answer_from(s, today, depletion, waiting, &mut draft[..count], depths)
+}
