@@ -1,26 +1,126 @@
 -- The proofs of `specs/Claims.antt`, in its order.
-use mathlib.Core.Path.{_≡_, refl, sym}
-use mathlib.Core.List.{List}
-use Prim.Native.Nat.{ℕ, _≤_}
+use mathlib.Core.Path.{_≡_, refl}
+use mathlib.Core.List.{List, map}
+use Prim.Native.Nat.{ℕ}
+use native.Mathlib.Omega.{arith}
+use lib.ListN.{length}
+use Rattle.season.specs.Rules.{ramp, rampZ}
+use Rattle.season.specs.Calendar.{nextDay, daysOn}
+use Rattle.season.specs.Day.{dateOf, kcOf, cropNeed, rainOn}
+use Rattle.verdict.specs.declared.Verdict.the-variants as verdict
+use Rattle.verdict.specs.Refusals.{orRefused}
+use Rattle.leb128.specs.Groups.{encode, overGroups, overIn, groupCount}
+use Rattle.leb128.specs.Forms.{decode, decodeFrom, below}
+use Rattle.sheet.specs.Numbers.{before, numbers, ended, numbersRead, written}
+use Rattle.sheet.specs.Fields.{outside, lowestOutside}
+use Rattle.sheet.specs.Sheets.{fieldsVerdict, sheetOf}
+use Rattle.sheet.proofs.Claims as sheets
+use Rattle.journal.specs.declared.Entry.{Entry}
+use Rattle.journal.specs.declared.Opening.{Opening}
+use Rattle.journal.specs.declared.Opening.the-variants as found
+use Rattle.journal.specs.declared.Recorded.{Recorded}
+use Rattle.journal.specs.declared.Mended.{Mended}
+use Rattle.journal.specs.Entries.{tagOf, sourceTag, numberOf, start, enter, refusal, accepts, passes}
+use Rattle.journal.specs.Entries as journal
+use Rattle.journal.specs.Opening.{value, least, starts, entryOf, only, entryAt, replay, replayed, blank, trim, tornAt, behind, opening}
+use Rattle.journal.specs.Calls.{noStores, judged, recorded, stains, notMended, mendedOn, mended, wipesIn, mendedNumbers}
+use Rattle.journal.specs.Claims.{OpeningOccurs, RecordedOccurs, MendedOccurs}
+use Rattle.journal.proofs.Claims as journals
+use Rattle.planner.specs.declared.Planned.{Planned}
+use Rattle.planner.specs.declared.Planned.the-variants as planned
+use Rattle.planner.specs.Choices.{irrigated}
+use Rattle.planner.specs.Plan.{ending, walk, watered, pad, onWalk, byWalks}
+use Rattle.planner.specs.Answer.{sum, answerTo, answer}
 use Rattle.decades.specs.declared.Tabled.{Tabled}
-use Rattle.decades.specs.declared.Tabled.the-variants.{Rows, Refused}
+use Rattle.decades.specs.declared.Tabled.the-variants as table
 use Rattle.decades.specs.Table.{tabled}
-use Rattle.decades.proofs.Answers.{rows-refused, tabled-rows-at-most, refused-unaltered}
-use Rattle.controller.specs.Calls.{sheetTabled}
+use Rattle.decades.proofs.Claims as decades
+use Rattle.controller.specs.Calls.{plannedOn, sheetOpened, sheetRecorded, sheetMended, sheetPlanned, sheetTabled, onSheet}
+use Rattle.controller.specs.Refusals.{openVerdict, planVerdict, tableVerdict, openLines, entryLines, planLines, tableLines}
+use Rattle.controller.specs.Cases.{cases}
 use Rattle.controller.specs.Claims.{Claims}
 use Rattle.controller.proofs.Sheets.{on-sheet}
+use Rattle.controller.proofs.Demands.{demand-3}
+use Rattle.controller.proofs.Refusing.{sheet-verdict, open-verdict, entry-verdict, mend-verdict, plan-verdict, table-verdict, entry-refused, mend-refused, plan-refused-keeps}
 
-rows-at-most : (sheet out : List ℕ) (k : ℕ) → sheetTabled sheet out .0 ≡ Rows k → k ≤ 37
-rows-at-most sheet out k =
-    on-sheet (λ number value. (Refused number value, out)) (λ s. tabled s out) sheet (λ (a : Tabled × List ℕ). a .0 ≡ Rows k → k ≤ 37)
-    (λ number value v e. absurd (rows-refused k number value (sym e)))
-    (λ s v q o e. tabled-rows-at-most s out k (o .valid) e)
+-- The calls' two ways: a refused sheet, and an accepted season.
+module _ (sheet : List ℕ) where
+  module _ (area : List ℕ) where
+    abbrev noOpening : ℕ → ℕ → Opening
+    noOpening = found.Refused
 
-table-unaltered : (sheet out : List ℕ) (number value : ℕ) → sheetTabled sheet out .0 ≡ Refused number value → sheetTabled sheet out .1 ≡ out
-table-unaltered sheet out number value =
-    on-sheet (λ m w. (Refused m w, out)) (λ s. tabled s out) sheet (λ (a : Tabled × List ℕ). a .0 ≡ Refused number value → a .1 ≡ out)
-    (λ m w v e. refl)
-    (λ s v q o e. refused-unaltered s out number value e)
+    abbrev noEntry : ℕ → ℕ → Recorded
+    noEntry number value = judged (verdict.Refused number value) noStores
+
+    entry-no-stores : (e : Entry) (number value : ℕ) → sheetRecorded sheet area e .verdict ≡ verdict.Refused number value → sheetRecorded sheet area e ≡ noEntry number value
+    unfolding judged
+    entry-no-stores e number value =
+        on-sheet noEntry (λ s. recorded s area e) sheet (λ (r : Recorded). r .verdict ≡ verdict.Refused number value → r ≡ noEntry number value)
+        (λ m w v h. let i : m ≡ number = cc in let j : w ≡ value = cc in rw (i, j))
+        (λ s v q o h. entry-refused s area e number value h)
+
+    mend-no-stores : (number value : ℕ) → sheetMended sheet area .verdict ≡ verdict.Refused number value → sheetMended sheet area ≡ notMended number value
+    mend-no-stores number value =
+        on-sheet notMended (λ s. mended s area) sheet (λ (r : Mended). r .verdict ≡ verdict.Refused number value → r ≡ notMended number value)
+        (λ m w v h. let i : m ≡ number = cc in let j : w ≡ value = cc in rw (i, j))
+        (λ s v q o h. mend-refused s area number value h)
+
+    opening-occurs : OpeningOccurs (sheetOpened sheet area)
+    opening-occurs =
+        on-sheet noOpening (λ s. opening s area) sheet OpeningOccurs
+        (λ number value v. let r = sheets.claims .refused-number sheet number value v in (r .0, omega arith))
+        (λ s v q o. journals.claims .opening-occurs s area)
+
+    recorded-occurs : (e : Entry) → RecordedOccurs (sheetRecorded sheet area e)
+    unfolding judged
+    recorded-occurs e =
+        on-sheet noEntry (λ s. recorded s area e) sheet RecordedOccurs
+        (λ number value v. (sheets.claims .refused-number sheet number value v .0, refl))
+        (λ s v q o. journals.claims .recorded-occurs s o area e)
+
+    mended-occurs : MendedOccurs (sheetMended sheet area)
+    mended-occurs =
+        on-sheet notMended (λ s. mended s area) sheet MendedOccurs
+        (λ number value v. (record { three = refl; few = omega arith; rest = refl }, (sheets.claims .refused-number sheet number value v .0, refl)))
+        (λ s v q o. journals.claims .mended-occurs s o area)
+
+    plan-unaltered : (out : List ℕ) (number value : ℕ) → sheetPlanned sheet area out .0 ≡ planned.Refused number value → sheetPlanned sheet area out .1 ≡ out
+    plan-unaltered out number value =
+        on-sheet (λ m w. (planned.Refused m w, out)) (λ s. plannedOn s out (opening s area)) sheet (λ (a : Planned × List ℕ). a .0 ≡ planned.Refused number value → a .1 ≡ out)
+        (λ m w v h. refl)
+        (λ s v q o h. plan-refused-keeps s area out number value h)
+
+  table-unaltered : (out : List ℕ) (number value : ℕ) → sheetTabled sheet out .0 ≡ table.Refused number value → sheetTabled sheet out .1 ≡ out
+  table-unaltered out number value =
+      on-sheet (λ m w. (table.Refused m w, out)) (λ s. tabled s out) sheet (λ (a : Tabled × List ℕ). a .0 ≡ table.Refused number value → a .1 ≡ out)
+      (λ m w v h. refl)
+      (λ s v q o h. decades.claims .refused-unaltered s out number value h)
+
+cases-hold : map (λ (c : List ℕ × List ℕ). c .0) cases ≡ map (λ (c : List ℕ × List ℕ). c .1) cases
+unfolding cases onSheet plannedOn sheetOf fieldsVerdict lowestOutside outside numbersRead ended numbers before written decode decodeFrom below encode overGroups overIn groupCount orRefused opening replayed replay behind blank trim tornAt entryAt entryOf only value least starts start enter refusal accepts passes tagOf sourceTag numberOf journal.outside mended mendedOn stains mendedNumbers wipesIn answer answerTo byWalks onWalk pad walk ending watered irrigated sum dateOf kcOf cropNeed rainOn nextDay daysOn ramp rampZ
+cases-hold = refl
 
 pub claims : Claims
-claims = record { rows-at-most = rows-at-most; table-unaltered = table-unaltered }
+unfolding judged
+claims = record {
+  demand-3 = demand-3;
+  open-refuses = λ sheet area. sheet-verdict openVerdict found.Refused (λ s. opening s area) sheet (openLines area) (λ number value. refl) (λ s o. open-verdict s area);
+  entry-refuses = λ sheet area e.
+      sheet-verdict (λ (r : Recorded). r .verdict) (λ number value. judged (verdict.Refused number value) noStores) (λ s. recorded s area e) sheet (entryLines area e) (λ number value. refl) (λ s o. entry-verdict s area e);
+  mend-refuses = λ sheet area.
+      sheet-verdict (λ (r : Mended). r .verdict) notMended (λ s. mended s area) sheet (openLines area) (λ number value. refl) (λ s o. mend-verdict s area);
+  plan-refuses = λ sheet area out.
+      sheet-verdict (λ (a : Planned × List ℕ). planVerdict (a .0)) (λ number value. (planned.Refused number value, out)) (λ s. plannedOn s out (opening s area)) sheet (planLines area (length out)) (λ number value. refl) (λ s o. plan-verdict s area out);
+  table-refuses = λ sheet out.
+      sheet-verdict (λ (a : Tabled × List ℕ). tableVerdict (a .0)) (λ number value. (table.Refused number value, out)) (λ s. tabled s out) sheet (tableLines (length out)) (λ number value. refl) (λ s o. table-verdict s out);
+  entry-no-stores = entry-no-stores;
+  mend-no-stores = mend-no-stores;
+  plan-unaltered = plan-unaltered;
+  table-unaltered = table-unaltered;
+  sheet-as-written = sheets.claims .accepted-as-written;
+  written-as-sheet = sheets.claims .written-accepted;
+  opening-occurs = opening-occurs;
+  recorded-occurs = recorded-occurs;
+  mended-occurs = mended-occurs;
+  cases-hold = cases-hold;
+}

@@ -11,23 +11,23 @@ use Rattle.sheet.specs.Sheets.{sheetOf}
 use Rattle.sheet.proofs.Accepted.{accepted-sown}
 use Rattle.controller.specs.Calls.{byVerdict, onSheet}
 
-module _ {A : Type 0} (refuse : ℕ → ℕ → A) (answer : Season → A) (b : List ℕ) where
+module _ {A : Type 0} (refuse : ℕ → ℕ → A) (reply : Season → A) (b : List ℕ) where
   -- What holds of every refusal and of every accepted season holds of the call.
   pub on-sheet : (P : A → Type 0) → ((number value : ℕ) → sheetOf b .verdict ≡ Refused number value → P (refuse number value))
-      → ((s : Season) → sheetOf b .verdict ≡ Accepted → sheetOf b .season ≡ s → Sown s → P (answer s)) → P (onSheet refuse answer b)
+      → ((s : Season) → sheetOf b .verdict ≡ Accepted → sheetOf b .season ≡ s → Sown s → P (reply s)) → P (onSheet refuse reply b)
   unfolding onSheet
   on-sheet P f g = go (sheetOf b .verdict) refl
     where
-      go : (v : Verdict) → sheetOf b .verdict ≡ v → P (byVerdict refuse answer (sheetOf b .season) v)
+      go : (v : Verdict) → sheetOf b .verdict ≡ v → P (byVerdict refuse reply (sheetOf b .season) v)
       go Accepted e = g (sheetOf b .season) e refl (accepted-sown b e)
       go (Refused number value) e = f number value e
 
   module _ (r : Sheet) (e : r ≡ sheetOf b) where
-    pub sheet-refused : (number value : ℕ) → r .verdict ≡ Refused number value → onSheet refuse answer b ≡ refuse number value
+    pub sheet-refused : (number value : ℕ) → r .verdict ≡ Refused number value → onSheet refuse reply b ≡ refuse number value
     unfolding onSheet
     sheet-refused number value v = rw (← e, v)
 
-    pub sheet-accepted : r .verdict ≡ Accepted → onSheet refuse answer b ≡ answer (r .season)
+    pub sheet-accepted : r .verdict ≡ Accepted → onSheet refuse reply b ≡ reply (r .season)
     unfolding onSheet
     sheet-accepted v = rw (← e, v)
 

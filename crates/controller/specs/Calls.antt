@@ -1,22 +1,58 @@
--- Document 01, 'Why the controller says no': refusals 1 to 7 concern every call. A call on a sheet's bytes gives the first of them that
--- applies, and else what it answers of the season.
+-- The seven calls on bytes. Refusals 1 to 7 concern every call: a call gives the first of them that applies, and else what it answers of the
+-- sheet's season.
 use Prim.Native.Nat.{ℕ}
+use mathlib.Core.Bool.{cond}
 use mathlib.Core.List.{List}
+use lib.Dec.{ltb}
 use Rattle.season.specs.declared.Season.{Season}
+use Rattle.season.specs.Sheet.{seasonDays}
 use Rattle.verdict.specs.declared.Verdict.{Verdict}
 use Rattle.verdict.specs.declared.Verdict.the-variants.{Accepted, Refused}
 use Rattle.sheet.specs.Sheets.{sheetOf}
-use Rattle.decades.specs.Table.{tabled}
+use Rattle.journal.specs.declared.Entry.{Entry}
+use Rattle.journal.specs.declared.Opening.{Opening}
+use Rattle.journal.specs.declared.Opening.the-variants as found
+use Rattle.journal.specs.declared.Recorded.{Recorded}
+use Rattle.journal.specs.declared.Mended.{Mended}
+use Rattle.journal.specs.Entries.{waiting}
+use Rattle.journal.specs.Opening.{opening}
+use Rattle.journal.specs.Calls.{noStores, judged, recorded, notMended, mended}
+use Rattle.planner.specs.declared.Planned.{Planned}
+use Rattle.planner.specs.declared.Planned.the-variants as planned
+use Rattle.planner.specs.Answer.{answer}
 use Rattle.decades.specs.declared.Tabled.{Tabled}
 use Rattle.decades.specs.declared.Tabled.the-variants as table
+use Rattle.decades.specs.Table.{tabled}
 
 abbrev pub byVerdict : {A : Type 0} → (ℕ → ℕ → A) → (Season → A) → Season → Verdict → A
-byVerdict refuse answer s Accepted = answer s
-byVerdict refuse answer s (Refused number value) = refuse number value
+byVerdict refuse reply s Accepted = reply s
+byVerdict refuse reply s (Refused number value) = refuse number value
 
 unfoldable pub onSheet : {A : Type 0} → (ℕ → ℕ → A) → (Season → A) → List ℕ → A
-onSheet refuse answer sheet = byVerdict refuse answer (sheetOf sheet .season) (sheetOf sheet .verdict)
+onSheet refuse reply sheet = byVerdict refuse reply (sheetOf sheet .season) (sheetOf sheet .verdict)
 
--- Decade table: the answer and the lent buffer after it. A refused sheet leaves the buffer as it was.
+-- Open.
+abbrev pub sheetOpened : List ℕ → List ℕ → Opening
+sheetOpened sheet area = onSheet found.Refused (λ s. opening s area) sheet
+
+-- Rain, irrigation and close: a refusal has no stores.
+abbrev pub sheetRecorded : List ℕ → List ℕ → Entry → Recorded
+sheetRecorded sheet area e = onSheet (λ number value. judged (Refused number value) noStores) (λ s. recorded s area e) sheet
+
+-- Mend.
+abbrev pub sheetMended : List ℕ → List ℕ → Mended
+sheetMended sheet area = onSheet notMended (λ s. mended s area) sheet
+
+-- Plan, on a journal that opens so, with the lent buffer: 8 to 10, then 11, then 15 and 16. It runs from the ledger's open day, starting at its depletion.
+unfoldable pub plannedOn : Season → List ℕ → Opening → Planned × List ℕ
+plannedOn s out (found.Clean l) =
+    cond (ltb (seasonDays s) (l .day)) (planned.Refused 11 0, out) (answer s (l .day) (l .depletion) (waiting l) out)
+plannedOn s out (found.Torn l place) = (planned.Refused 10 place, out)
+plannedOn s out (found.Refused number place) = (planned.Refused number place, out)
+
+abbrev pub sheetPlanned : List ℕ → List ℕ → List ℕ → Planned × List ℕ
+sheetPlanned sheet area out = onSheet (λ number value. (planned.Refused number value, out)) (λ s. plannedOn s out (opening s area)) sheet
+
+-- Table, with the lent buffer.
 abbrev pub sheetTabled : List ℕ → List ℕ → Tabled × List ℕ
 sheetTabled sheet out = onSheet (λ number value. (table.Refused number value, out)) (λ s. tabled s out) sheet

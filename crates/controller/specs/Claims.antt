@@ -1,12 +1,50 @@
--- What is proved of the calls' definitions. `claims`, in proofs/Claims.antt, has a proof of each field.
+-- What is proved of the calls, gathered: `claims`, in proofs/Claims.antt, has a proof of each field. The lower crates' claims stand in their own `Claims`.
 use mathlib.Core.Path.{_≡_}
-use mathlib.Core.List.{List}
+use mathlib.Core.List.{List, map}
 use Prim.Native.Nat.{ℕ, _≤_}
-use Rattle.decades.specs.declared.Tabled.the-variants.{Rows, Refused}
-use Rattle.controller.specs.Calls.{sheetTabled}
+use lib.ListN.{length}
+use Rattle.verdict.specs.declared.Verdict.the-variants.{Accepted, Refused}
+use Rattle.verdict.specs.Refusals.{firstOf}
+use Rattle.leb128.specs.Claims.{Bytes}
+use Rattle.sheet.specs.Numbers.{numbersRead, written}
+use Rattle.sheet.specs.Fields.{seasonOf}
+use Rattle.sheet.specs.Sheets.{fieldsVerdict, sheetOf}
+use Rattle.journal.specs.declared.Entry.{Entry}
+use Rattle.journal.specs.Calls.{noStores, judged, notMended}
+use Rattle.journal.specs.Book.{Step}
+use Rattle.journal.specs.Claims.{OpeningOccurs, RecordedOccurs, MendedOccurs}
+use Rattle.planner.specs.declared.Planned.the-variants as planned
+use Rattle.decades.specs.declared.Tabled.the-variants as table
+use Rattle.controller.specs.Calls.{sheetOpened, sheetRecorded, sheetMended, sheetPlanned, sheetTabled}
+use Rattle.controller.specs.Refusals.{openVerdict, planVerdict, tableVerdict, sheetLines, openLines, entryLines, planLines, tableLines}
+use Rattle.controller.specs.Demands.{Demand3}
+use Rattle.controller.specs.Cases.{cases}
 
 pub record Claims : Type 0 where
-  -- No table has more than 37 rows.
-  pub rows-at-most : (sheet out : List ℕ) (k : ℕ) → sheetTabled sheet out .0 ≡ Rows k → k ≤ 37
-  -- A refused call leaves the buffer as it was.
-  pub table-unaltered : (sheet out : List ℕ) (number value : ℕ) → sheetTabled sheet out .0 ≡ Refused number value → sheetTabled sheet out .1 ≡ out
+  -- Demand 3: for every accepted sheet, area length, history with its cuts, and lent buffer.
+  pub demand-3 : (sheet : List ℕ) → sheetOf sheet .verdict ≡ Accepted → (size : ℕ) → size ≤ 8192 → (steps : List Step) (out : List ℕ)
+      → Demand3 sheet size steps out
+  -- Demand 1: each call gives the first refusal that applies,
+  pub open-refuses : (sheet area : List ℕ) → openVerdict (sheetOpened sheet area) ≡ firstOf Accepted (sheetLines sheet (openLines area))
+  pub entry-refuses : (sheet area : List ℕ) (e : Entry) → sheetRecorded sheet area e .verdict ≡ firstOf Accepted (sheetLines sheet (entryLines area e))
+  pub mend-refuses : (sheet area : List ℕ) → sheetMended sheet area .verdict ≡ firstOf Accepted (sheetLines sheet (openLines area))
+  pub plan-refuses : (sheet area out : List ℕ) → planVerdict (sheetPlanned sheet area out .0) ≡ firstOf Accepted (sheetLines sheet (planLines area (length out)))
+  pub table-refuses : (sheet out : List ℕ) → tableVerdict (sheetTabled sheet out .0) ≡ firstOf Accepted (sheetLines sheet (tableLines (length out)))
+  -- and a refused call has no stores and leaves every lent buffer as it was.
+  pub entry-no-stores : (sheet area : List ℕ) (e : Entry) (number value : ℕ) → sheetRecorded sheet area e .verdict ≡ Refused number value
+      → sheetRecorded sheet area e ≡ judged (Refused number value) noStores
+  pub mend-no-stores : (sheet area : List ℕ) (number value : ℕ) → sheetMended sheet area .verdict ≡ Refused number value
+      → sheetMended sheet area ≡ notMended number value
+  pub plan-unaltered : (sheet area out : List ℕ) (number value : ℕ) → sheetPlanned sheet area out .0 ≡ planned.Refused number value
+      → sheetPlanned sheet area out .1 ≡ out
+  pub table-unaltered : (sheet out : List ℕ) (number value : ℕ) → sheetTabled sheet out .0 ≡ table.Refused number value → sheetTabled sheet out .1 ≡ out
+  -- Demand 2: an accepted sheet and its forty fields match one to one. (Entries and their bytes: the journal's `Claims`.)
+  pub sheet-as-written : (sheet : List ℕ) → Bytes sheet → sheetOf sheet .verdict ≡ Accepted → sheet ≡ written (numbersRead sheet .fields)
+  pub written-as-sheet : (vs : List ℕ) → length vs ≡ 40 → fieldsVerdict vs ≡ Accepted
+      → sheetOf (written vs) ≡ record { season = seasonOf vs; verdict = Accepted }
+  -- The calls' answers are among those on which their numberings are one to one (the journal's `Claims`; a plan's and a table's are, on all answers).
+  pub opening-occurs : (sheet area : List ℕ) → OpeningOccurs (sheetOpened sheet area)
+  pub recorded-occurs : (sheet area : List ℕ) (e : Entry) → RecordedOccurs (sheetRecorded sheet area e)
+  pub mended-occurs : (sheet area : List ℕ) → MendedOccurs (sheetMended sheet area)
+  -- The cases marked †.
+  pub cases-hold : map (λ (c : List ℕ × List ℕ). c .0) cases ≡ map (λ (c : List ℕ × List ℕ). c .1) cases

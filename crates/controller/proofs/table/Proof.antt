@@ -1,9 +1,9 @@
 -- The answer goes by what reading the sheet answered.
 use mathlib.Core.Path.{sym, _∙_}
 use denote.Ref.{now}
+use Rattle.controller.proofs.Sheets.{sheet-refused, sheet-accepted, read-sown}
 use Rattle.decades.specs.declared.Tabled.the-variants.{Refused}
 use Rattle.decades.specs.Table.{tabled}
-use Rattle.controller.proofs.Sheets.{sheet-refused, sheet-accepted, read-sown}
 use borrow.Author.Needs.{needs}
 use Rattle.controller.proofs.table.Statement.{statement}
 use Rattle.controller.proofs.table.Tie as tie
@@ -28,7 +28,7 @@ returns c =
     let at-verdict = c .before in
     let at-read = at-verdict .before .before .before in
     let start = at-read .before .before .before in
-    sym (sheet-refused _ _ (now (start .args .sheet)) (at-read .read .result) (at-read .read .ensures) _ _ (at-verdict .verdict .given .1))
+    sym (sheet-refused (λ number value. (Refused number value, now (start .args .rows))) (λ s. tabled s (now (start .args .rows))) (now (start .args .sheet)) (at-read .read .result) (at-read .read .ensures) _ _ (at-verdict .verdict .given .1))
 
 same-length : tie.Need-same-length
 same-length c = search needs

@@ -1,0 +1,206 @@
+-- Demand 1: each call's verdict is the first of its lines that applies.
+use mathlib.Core.Path.{_≡_, refl, sym, _∙_}
+use mathlib.Core.Bool.{Bool, true, false, cond}
+use mathlib.Core.List.{List, [], _∷_, _++_}
+use Prim.Native.Nat.{ℕ, _*_, _≤_, _<_}
+use lib.Dec.{ltb, leb}
+use lib.ListN.{length, drop}
+use borrow.Author.Tests.{lt-ltb, le-ltb, leb-true, leb-false}
+use Rattle.season.specs.declared.Season.{Season}
+use Rattle.season.specs.Sheet.{seasonDays}
+use Rattle.season.specs.Day.{Sown}
+use Rattle.verdict.specs.declared.Verdict.{Verdict}
+use Rattle.verdict.specs.declared.Verdict.the-variants.{Accepted, Refused}
+use Rattle.verdict.specs.Refusals.{orRefused, firstOf}
+use Rattle.verdict.proofs.First.{first-refused, refused-accepted}
+use Rattle.sheet.specs.Sheets.{sheetOf}
+use Rattle.journal.specs.declared.Entry.{Entry}
+use Rattle.journal.specs.declared.Ledger.{Ledger}
+use Rattle.journal.specs.declared.Opening.{Opening}
+use Rattle.journal.specs.declared.Opening.the-variants as found
+use Rattle.journal.specs.declared.Stores.{Stores}
+use Rattle.journal.specs.Entries.{waiting, refusals, refusal}
+use Rattle.journal.specs.Opening.{replayed, tornAt, trim, blank, behind, opening}
+use Rattle.journal.specs.Calls.{noStores, judged, storesOf, recordedOn, recorded, notMended, mendedOn, mended}
+use Rattle.planner.specs.declared.Planned.{Planned}
+use Rattle.planner.specs.declared.Planned.the-variants as planned
+use Rattle.planner.specs.Plan.{Plan, depths, refused}
+use Rattle.planner.specs.Outlook.{daysLeft}
+use Rattle.planner.specs.Answer.{answerTo, answer}
+use Rattle.planner.proofs.Claims as plans
+use Rattle.decades.specs.Table.{rowCount, tabled}
+use Rattle.decades.specs.declared.Tabled.{Tabled}
+use Rattle.decades.specs.declared.Tabled.the-variants as table
+use Rattle.decades.specs.Table as definition
+use Rattle.controller.specs.Calls.{onSheet, plannedOn}
+use Rattle.controller.specs.Refusals.{Line, openVerdict, planVerdict, tableVerdict, sheetLines, areaLines, tornLine, ledgerIn, openLines, entryLines, lost, planOf, roomLines, planLines, tableLines}
+use Rattle.controller.proofs.Sheets.{on-sheet}
+
+-- Refusals 1 to 7 come first, for every call.
+pub sheet-verdict : {A : Type 0} (verdictOf : A → Verdict) (refuse : ℕ → ℕ → A) (reply : Season → A) (sheet : List ℕ) (lines : Season → List Line)
+    → ((number value : ℕ) → verdictOf (refuse number value) ≡ Refused number value)
+    → ((s : Season) → Sown s → verdictOf (reply s) ≡ firstOf Accepted (lines s))
+    → verdictOf (onSheet refuse reply sheet) ≡ firstOf Accepted (sheetLines sheet lines)
+unfolding orRefused
+sheet-verdict verdictOf refuse reply sheet lines no-sheet of-season =
+    on-sheet refuse reply sheet (λ a. verdictOf a ≡ firstOf Accepted (sheetLines sheet lines))
+    (λ number value e. no-sheet number value ∙ sym (rw e (first-refused number value (lines (sheetOf sheet .season)))))
+    (λ s e q o. of-season s o ∙ rw (e, q))
+
+-- ---- what an opening can be
+
+opening-by : (s : Season) (area : List ℕ) (P : Opening → Type 0) → (8192 < length area → P (found.Refused 8 0))
+    → (length area ≤ 8192 → (l : Ledger) → P (found.Clean l)) → (length area ≤ 8192 → (l : Ledger) → P (found.Torn l (l .place)))
+    → (length area ≤ 8192 → (place : ℕ) → P (found.Refused 9 place)) → P (opening s area)
+unfolding opening behind
+opening-by s area P long clean torn damaged = size (leb (length area) 8192) refl
+  where
+    l : Ledger
+    l = replayed s area .ledger
+
+    rest : List ℕ
+    rest = replayed s area .rest
+
+    part : (b : Bool) → length area ≤ 8192 → P (elim b [ true ↦ found.Torn l (l .place) | false ↦ found.Refused 9 (l .place) ])
+    part true h = torn h l
+    part false h = damaged h (l .place)
+
+    tail : (b : Bool) → length area ≤ 8192
+        → P (elim b [ true ↦ found.Clean l | false ↦ elim (tornAt (seasonDays s) (length area) l (trim rest)) [ true ↦ found.Torn l (l .place) | false ↦ found.Refused 9 (l .place) ] ])
+    tail true h = clean h l
+    tail false h = part (tornAt (seasonDays s) (length area) l (trim rest)) h
+
+    size : (b : Bool) → leb (length area) 8192 ≡ b
+        → P (elim b [ true ↦ behind (seasonDays s) (length area) (replayed s area .ledger) (replayed s area .rest) | false ↦ found.Refused 8 0 ])
+    size true e = tail (blank rest) (leb-true (length area) 8192 e)
+    size false e = long (leb-false (length area) 8192 e)
+
+-- ---- 8 to 14
+
+module _ (s : Season) (area : List ℕ) where
+  -- A call whose verdict is 8, 9, then what `lines` give of the opening.
+  by-opening : (verdictOf : Opening → Verdict) (lines : Opening → List Line)
+      → ((number place : ℕ) → verdictOf (found.Refused number place) ≡ Refused number place)
+      → ((l : Ledger) → verdictOf (found.Clean l) ≡ firstOf Accepted (lines (found.Clean l)))
+      → ((l : Ledger) → verdictOf (found.Torn l (l .place)) ≡ firstOf Accepted (lines (found.Torn l (l .place))))
+      → verdictOf (opening s area) ≡ firstOf Accepted (areaLines (length area) (opening s area) ++ lines (opening s area))
+  unfolding orRefused
+  by-opening verdictOf lines refuses clean torn =
+      opening-by s area (λ o. verdictOf o ≡ firstOf Accepted (areaLines (length area) o ++ lines o))
+      (λ h. refuses 8 0 ∙ sym (rw (lt-ltb 8192 (length area) h) (first-refused 8 0 (lines (found.Refused 8 0)))))
+      (λ h l. clean l ∙ sym (rw (le-ltb 8192 (length area) h)))
+      (λ h l. torn l ∙ sym (rw (le-ltb 8192 (length area) h)))
+      (λ h place. refuses 9 place ∙ sym (rw (le-ltb 8192 (length area) h) (first-refused 9 place (lines (found.Refused 9 place)))))
+
+  pub open-verdict : openVerdict (opening s area) ≡ firstOf Accepted (openLines area s)
+  open-verdict = by-opening openVerdict (λ o. []) (λ number place. refl) (λ l. refl) (λ l. refl)
+
+  judged-verdict : (v : Verdict) (w : Stores) → judged v w .verdict ≡ v
+  unfolding judged
+  judged-verdict Accepted w = refl
+  judged-verdict (Refused number value) w = refl
+
+  pub entry-verdict : (e : Entry) → recorded s area e .verdict ≡ firstOf Accepted (entryLines area e s)
+  unfolding recorded recordedOn refusal orRefused
+  entry-verdict e =
+      by-opening (λ o. recordedOn (seasonDays s) (length area) e o .verdict) (λ o. tornLine o ∷ refusals (seasonDays s) (length area) (ledgerIn s o) e)
+      (λ number place. judged-verdict (Refused number place) noStores)
+      (λ l. judged-verdict (refusal (seasonDays s) (length area) l e) (storesOf l e))
+      (λ l. judged-verdict (Refused 10 (l .place)) noStores ∙ sym (first-refused 10 (l .place) (refusals (seasonDays s) (length area) l e)))
+
+  pub mend-verdict : mended s area .verdict ≡ firstOf Accepted (openLines area s)
+  unfolding mended mendedOn
+  mend-verdict = by-opening (λ o. mendedOn area o .verdict) (λ o. []) (λ number place. refl) (λ l. refl) (λ l. refl)
+
+  -- ---- 11, 15 and 16
+
+  module _ (out : List ℕ) where
+    plan-16 : (e : ℕ) (p : Plan) → planVerdict (answerTo e out p .0) ≡ firstOf Accepted ((lost p .0, 16, lost p .1) ∷ [])
+    unfolding answerTo orRefused
+    plan-16 e (depths xs) = refl
+    plan-16 e (refused f) = refl
+
+    plan-15 : (l : Ledger) → planVerdict (answer s (l .day) (l .depletion) (waiting l) out .0)
+        ≡ firstOf Accepted ((ltb (length out) (daysLeft s (l .day)), 15, 0) ∷ (lost (planOf s l) .0, 16, lost (planOf s l) .1) ∷ [])
+    unfolding answer orRefused
+    plan-15 l = go (ltb (length out) (daysLeft s (l .day)))
+      where
+        go : (b : Bool) → planVerdict (elim b as (λ x. Planned × List ℕ) [ true ↦ (planned.Refused 15 0, out) | false ↦ answerTo (s .efficiency) out (planOf s l) ] .0)
+            ≡ firstOf Accepted ((b, 15, 0) ∷ (lost (planOf s l) .0, 16, lost (planOf s l) .1) ∷ [])
+        go true = sym (first-refused 15 0 ((lost (planOf s l) .0, 16, lost (planOf s l) .1) ∷ []))
+        go false = plan-16 (s .efficiency) (planOf s l)
+
+    plan-11 : (l : Ledger) → planVerdict (plannedOn s out (found.Clean l) .0) ≡ firstOf Accepted (roomLines s (length out) l)
+    unfolding plannedOn orRefused
+    plan-11 l = go (ltb (seasonDays s) (l .day))
+      where
+        later : List Line
+        later = (ltb (length out) (daysLeft s (l .day)), 15, 0) ∷ (lost (planOf s l) .0, 16, lost (planOf s l) .1) ∷ []
+
+        go : (b : Bool) → planVerdict (cond {A = Planned × List ℕ} b (planned.Refused 11 0, out) (answer s (l .day) (l .depletion) (waiting l) out) .0)
+            ≡ firstOf Accepted ((b, 11, 0) ∷ later)
+        go true = sym (first-refused 11 0 later)
+        go false = plan-15 l
+
+    pub plan-verdict : planVerdict (plannedOn s out (opening s area) .0) ≡ firstOf Accepted (planLines area (length out) s)
+    unfolding plannedOn orRefused
+    plan-verdict =
+        by-opening (λ o. planVerdict (plannedOn s out o .0)) (λ o. tornLine o ∷ roomLines s (length out) (ledgerIn s o))
+        (λ number place. refl)
+        (λ l. plan-11 l)
+        (λ l. sym (first-refused 10 (l .place) (roomLines s (length out) l)))
+
+pub table-verdict : (s : Season) (out : List ℕ) → tableVerdict (tabled s out .0) ≡ firstOf Accepted (tableLines (length out) s)
+unfolding tabled orRefused
+table-verdict s out = go (ltb (length out) (rowCount s * 6))
+  where
+    go : (b : Bool) → tableVerdict (cond {A = Tabled × List ℕ} b (table.Refused 15 0, out) (table.Rows (rowCount s), definition.table s ++ drop (rowCount s * 6) out) .0)
+        ≡ firstOf Accepted ((b, 15, 0) ∷ [])
+    go true = refl
+    go false = refl
+
+-- ---- a refused call: no stores, buffers as they were
+
+judged-accepted : (w : Stores) → judged Accepted w .verdict ≡ Accepted
+unfolding judged
+judged-accepted w = refl
+
+pub entry-refused : (s : Season) (area : List ℕ) (e : Entry) (number value : ℕ) → recorded s area e .verdict ≡ Refused number value
+    → recorded s area e ≡ judged (Refused number value) noStores
+unfolding recorded recordedOn
+entry-refused s area e number value = go (opening s area)
+  where
+    none : (v : Verdict) (w : Stores) → judged v w .verdict ≡ Refused number value → judged v w ≡ judged (Refused number value) noStores
+    none Accepted w h = absurd (refused-accepted number value (sym h ∙ judged-accepted w))
+    none (Refused m x) w h = let i : m ≡ number = cc in let j : x ≡ value = cc in rw (i, j)
+
+    go : (o : Opening) → recordedOn (seasonDays s) (length area) e o .verdict ≡ Refused number value
+        → recordedOn (seasonDays s) (length area) e o ≡ judged (Refused number value) noStores
+    go (found.Clean l) h = none (refusal (seasonDays s) (length area) l e) (storesOf l e) h
+    go (found.Torn l place) h = none (Refused 10 place) noStores h
+    go (found.Refused m place) h = none (Refused m place) noStores h
+
+pub mend-refused : (s : Season) (area : List ℕ) (number value : ℕ) → mended s area .verdict ≡ Refused number value → mended s area ≡ notMended number value
+unfolding mended mendedOn
+mend-refused s area number value = go (opening s area)
+  where
+    go : (o : Opening) → mendedOn area o .verdict ≡ Refused number value → mendedOn area o ≡ notMended number value
+    go (found.Clean l) h = absurd (refused-accepted number value (sym h))
+    go (found.Torn l place) h = absurd (refused-accepted number value (sym h))
+    go (found.Refused m place) h = let i : m ≡ number = cc in let j : place ≡ value = cc in rw (i, j)
+
+pub plan-refused-keeps : (s : Season) (area out : List ℕ) (number value : ℕ) → plannedOn s out (opening s area) .0 ≡ planned.Refused number value
+    → plannedOn s out (opening s area) .1 ≡ out
+unfolding plannedOn
+plan-refused-keeps s area out number value = go (opening s area)
+  where
+    open-day : (l : Ledger) (b : Bool) → cond {A = Planned × List ℕ} b (planned.Refused 11 0, out) (answer s (l .day) (l .depletion) (waiting l) out) .0 ≡ planned.Refused number value
+        → cond {A = Planned × List ℕ} b (planned.Refused 11 0, out) (answer s (l .day) (l .depletion) (waiting l) out) .1 ≡ out
+    open-day l true h = refl
+    open-day l false h =
+        plans.claims .answer-refused-keeps s (l .day) (l .depletion) (waiting l) number value out _ (λ i. (h i, answer s (l .day) (l .depletion) (waiting l) out .1))
+
+    go : (o : Opening) → plannedOn s out o .0 ≡ planned.Refused number value → plannedOn s out o .1 ≡ out
+    go (found.Clean l) h = open-day l (ltb (seasonDays s) (l .day)) h
+    go (found.Torn l place) h = refl
+    go (found.Refused m place) h = refl

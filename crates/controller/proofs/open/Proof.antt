@@ -1,0 +1,39 @@
+-- The answer goes by what reading the sheet answered.
+use mathlib.Core.Path.{sym, _∙_}
+use denote.Ref.{now}
+use Rattle.controller.proofs.Sheets.{sheet-refused, sheet-accepted, read-sown}
+use Rattle.journal.specs.declared.Opening.the-variants.{Refused}
+use Rattle.journal.specs.Opening.{opening}
+use borrow.Author.Needs.{needs}
+use Rattle.controller.proofs.open.Statement.{statement}
+use Rattle.controller.proofs.open.Tie as tie
+
+read-requires : tie.Need-read-requires
+read-requires c κs = search needs
+
+enum-known-verdict : tie.Need-enum-known-verdict
+enum-known-verdict c = search needs
+
+enum-told : tie.Need-enum-told
+enum-told c = search needs
+
+open-requires : tie.Need-open-requires
+open-requires c κs = read-sown _ (c .before .before .before .read .result) (c .before .before .before .read .ensures) (c .enum-told .given .1)
+
+returns : tie.Need-returns
+returns c =
+    let at-verdict = c .before in
+    let at-read = at-verdict .before .before .before in
+    let start = at-read .before .before .before in
+    sym (sheet-refused Refused (λ s. opening s (now (start .args .area))) (now (start .args .sheet)) (at-read .read .result) (at-read .read .ensures) _ _ (at-verdict .verdict .given .1))
+
+returns-2 : tie.Need-returns-2
+returns-2 c =
+    let at-enum-told = c .before in
+    let at-read = at-enum-told .before .before .before in
+    let start = at-read .before .before .before in
+    c .«open» .ensures ∙ sym (sheet-accepted Refused (λ s. opening s (now (start .args .area))) (now (start .args .sheet)) (at-read .read .result) (at-read .read .ensures) (at-enum-told .enum-told .given .1))
+
+pub open-spec : {M : Type 1} → statement M
+open-spec =
+    tie.close (tie.spec read-requires enum-known-verdict enum-told open-requires returns returns-2)
