@@ -78,6 +78,18 @@ pub from-past : (i b : ℕ) (bs : List ℕ) → 128 ≤ b → 2 ≤ i → decode
 unfolding decodeFrom
 from-past i b bs m p = rw (le-ltb b 128 m, le-ltb i 2 p, decodeFrom)
 
+-- ---- the first byte
+
+pub decode-none : (s : List ℕ) → length s ≡ 0 → decode s ≡ Short
+unfolding decode decodeFrom
+decode-none [] h = refl
+decode-none (b ∷ bs) h = absurd (omega arith)
+
+pub decode-one : (s : List ℕ) → (length s ≡ 0 → ⊥) → getD s 0 0 < 128 → decode s ≡ Whole (getD s 0 0) 1
+unfolding decode
+decode-one [] n h = absurd (n refl)
+decode-one (b ∷ bs) n h = from-end 0 b bs h (inl refl)
+
 -- ---- reading stays within the bytes
 
 -- how many bytes an answer speaks of

@@ -47,7 +47,7 @@ pub fn split(n: u32) -> Groups
 }
 
 // The number at the start of `s`, its groups joined by shifts and masks.
-pub fn read(s: &[u8]) -> Number
+fn read_groups(s: &[u8]) -> Number
     ensures { λ r. ⌜ r ≡ decode (now (s .entry)) ⌝ }
 {
     let mut value: u32 = 0;
@@ -71,4 +71,18 @@ pub fn read(s: &[u8]) -> Number
         i = next;
     }
     Number::Short
+}
+
+// The same, with an early answer for the commonest numbers, those of one byte.
+pub fn read(s: &[u8]) -> Number
+    ensures { λ r. ⌜ r ≡ decode (now (s .entry)) ⌝ }
+{
+    if s.len() == 0 {
+        return Number::Short;
+    }
+    let first = s[0];
+    if first < 0x80 {
+        return Number::Whole(first as u32, 1);
+    }
+    read_groups(s)
 }
