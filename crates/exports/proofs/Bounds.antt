@@ -1,0 +1,337 @@
+-- No place, count or number returned with a refusal passes 8,192. Forty numbers of at most three bytes: a sheet's faults lie in its first
+-- 120, and one that ends too soon is shorter than that, so refusal 1's length is small though a sheet may be long.
+use Prim.Native.Nat.{ℕ, zero, suc, _+_, _*_, _≤_}
+use mathlib.Core.Path.{_≡_, refl, ap, _∙_}
+use mathlib.Core.Bool.{Bool, true, false, cond}
+use mathlib.Core.List.{List, [], _∷_, _++_}
+use native.Mathlib.Omega.{arith}
+use borrow.Author.Tests.{leb-true, ltb-false}
+use lib.Dec.{leb, ltb, eqb}
+use lib.ListN.{length, drop, take, getD, length-drop, length-take}
+use Rattle.leb128.specs.declared.Number.{Number}
+use Rattle.leb128.specs.declared.Number.the-variants.{Whole, Short, Bad}
+use Rattle.leb128.specs.Forms.{decode, decodeFrom, below}
+use Rattle.leb128.proofs.Laws.{few-bytes, short-few, reach-le}
+use Rattle.season.specs.declared.Season.{Season}
+use Rattle.season.specs.Day.{Sown}
+use Rattle.verdict.specs.declared.Verdict.{Verdict}
+use Rattle.verdict.specs.declared.Verdict.the-variants.{Accepted, Refused}
+use Rattle.verdict.specs.Refusals.{orRefused}
+use Rattle.sheet.specs.Numbers.{Run, run, stop, before, numbers, none, ended, numbersRead}
+use Rattle.sheet.specs.Fields.{limits, outside, lowestOutside, seasonOf}
+use Rattle.sheet.specs.Sheets.{fieldAtFault, fieldsVerdict, onlyAccepted, sheetOf}
+use Rattle.sheet.specs.Sheets as sheets
+use Rattle.season.specs.Sheet.{seasonDays}
+use Rattle.journal.specs.declared.Entry.{Entry}
+use Rattle.journal.specs.declared.Ledger.{Ledger}
+use Rattle.journal.specs.declared.Stores.{Stores}
+use Rattle.journal.specs.declared.Recorded.{Recorded}
+use Rattle.journal.specs.declared.Mended.{Mended}
+use Rattle.journal.specs.declared.Opening.{Opening}
+use Rattle.journal.specs.declared.Opening.the-variants as found
+use Rattle.journal.specs.Entries.{waiting, refusal}
+use Rattle.journal.specs.Opening.{replayed, tornAt, trim, blank, behind, opening}
+use Rattle.journal.specs.Calls.{storesOf, noStores, judged, recordedOn, recorded, stains, notMended, mendedOn, mended}
+use Rattle.journal.specs.Claims.{StoresOccur}
+use Rattle.journal.proofs.Sums.{replayed-place}
+use Rattle.planner.specs.declared.Planned.{Planned}
+use Rattle.planner.specs.declared.Planned.the-variants as planned
+use Rattle.planner.specs.Plan.{Plan, depths, refused, plan}
+use Rattle.planner.specs.Outlook.{outlook, daysLeft}
+use Rattle.planner.specs.Answer.{answerTo, answer}
+use Rattle.planner.proofs.Claims as plans
+use Rattle.decades.specs.declared.Tabled.{Tabled}
+use Rattle.decades.specs.declared.Tabled.the-variants as table
+use Rattle.decades.specs.Table.{rowCount, tabled}
+use Rattle.decades.specs.Table as definition
+use Rattle.decades.proofs.Count.{rows-at-most}
+use Rattle.controller.specs.Calls.{plannedOn, sheetOpened, sheetRecorded, sheetMended, sheetPlanned, sheetTabled}
+use Rattle.controller.proofs.Sheets.{on-sheet}
+use Rattle.controller.proofs.Claims.{claims}
+use Rattle.exports.specs.Small.{SmallVerdict, SmallOpening, SmallRecorded, SmallMended, SmallPlanned, SmallTabled}
+
+-- ---- the sheet
+
+first-three : (xs : List ℕ) → decode (take 3 xs) ≡ decode xs
+unfolding decode decodeFrom below
+first-three [] = refl
+first-three (a ∷ []) = refl
+first-three (a ∷ b ∷ []) = refl
+first-three (a ∷ b ∷ c ∷ xs) = refl
+
+-- An offending byte is one of the first three.
+bad-few : (xs : List ℕ) (p : ℕ) → decode xs ≡ Bad p → p ≤ 2
+bad-few xs p e =
+    let r : p + 1 ≤ length (take 3 xs) = rw (first-three xs ∙ e) at (reach-le (take 3 xs)) in
+    omega (arith, length-take 3 xs)
+
+-- Each number takes at most three bytes, and what is refused stands in the bytes of the number at fault.
+abbrev Ends : ℕ → Run → Type 0
+Ends most (run vs at) = at ≤ most
+Ends most (stop number place) = place ≤ most
+
+before-ends : (most v : ℕ) (r : Run) → Ends most r → Ends most (before v r)
+unfolding before
+before-ends most v (run vs at) h = h
+before-ends most v (stop number place) h = h
+
+numbers-end : (count at most : ℕ) (s : List ℕ) → at + 3 * count ≤ most → Ends most (numbers count at s)
+unfolding numbers
+numbers-end zero at most s h = omega arith
+numbers-end (suc count) at most s h = read (λ n m. numbers-end count (at + n) most s (omega arith)) (decode (drop at s)) refl
+  where
+    read : ((n : ℕ) → n ≤ 3 → Ends most (numbers count (at + n) s)) → (d : Number) → decode (drop at s) ≡ d
+        → Ends most (elim d [ Whole v n ↦ before v (numbers count (at + n) s) | Short ↦ stop 1 (length s) | Bad p ↦ stop 2 (at + p) ])
+    read f (Whole v n) e = before-ends most v (numbers count (at + n) s) (f n (few-bytes (drop at s) v n e))
+    read f Short e = omega (arith, length-drop at s, short-few (drop at s) e)
+    read f (Bad p) e = omega (arith, bad-few (drop at s) p e)
+
+ended-small : (s : List ℕ) (r : Run) → Ends 120 r → SmallVerdict (ended s r .verdict)
+unfolding ended
+ended-small s (run vs at) h = test (ltb at (length s))
+  where
+    test : (b : Bool) → SmallVerdict (cond b (none 3 at) (record { fields = vs; verdict = Accepted }) .verdict)
+    test true = omega arith
+    test false = tt
+ended-small s (stop number place) h = omega arith
+
+-- A field is one of forty.
+lowest-end : (i : ℕ) (ls : List _) (vs : List ℕ) → lowestOutside i ls vs ≤ i + length ls
+unfolding lowestOutside
+lowest-end i [] vs = omega arith
+lowest-end i (l ∷ ls) [] = omega arith
+lowest-end i (l ∷ ls) (v ∷ vs) = test (outside l v) (lowest-end (i + 1) ls vs)
+  where
+    test : (b : Bool) → lowestOutside (i + 1) ls vs ≤ i + 1 + length ls → cond b i (lowestOutside (i + 1) ls vs) ≤ i + length (l ∷ ls)
+    test true h = omega arith
+    test false h = omega arith
+
+or-small : (v : Verdict) (test : Bool) (number value : ℕ) → SmallVerdict v → value ≤ 8192 → SmallVerdict (orRefused v test number value)
+unfolding orRefused
+or-small Accepted true number value a h = h
+or-small Accepted false number value a h = tt
+or-small (Refused n w) test number value a h = a
+
+fields-small : (f : List ℕ) → SmallVerdict (fieldsVerdict f)
+unfolding fieldsVerdict
+fields-small f =
+    or-small _ _ 7 0 (or-small _ _ 6 0 (or-small _ _ 5 0 (or-small Accepted (ltb 0 (fieldAtFault f)) 4 (fieldAtFault f) tt
+    (omega (arith, lowest-end 1 (limits (getD f 0 0)) f))) (omega arith)) (omega arith)) (omega arith)
+
+pub sheet-small : (b : List ℕ) → SmallVerdict (sheetOf b .verdict)
+unfolding sheetOf numbersRead
+sheet-small b = judge (numbersRead b .verdict) (ended-small b (numbers 40 0 b) (numbers-end 40 0 120 b (omega arith)))
+  where
+    accepted : (v : Verdict) → SmallVerdict v → SmallVerdict (onlyAccepted (seasonOf (numbersRead b .fields)) v .verdict)
+    accepted Accepted a = tt
+    accepted (Refused number value) a = a
+
+    judge : (v : Verdict) → SmallVerdict v → SmallVerdict (sheets.judged (numbersRead b .fields) v .verdict)
+    judge Accepted a = accepted (fieldsVerdict (numbersRead b .fields)) (fields-small (numbersRead b .fields))
+    judge (Refused number value) a = a
+
+refused-small : (b : List ℕ) (number value : ℕ) → sheetOf b .verdict ≡ Refused number value → value ≤ 8192
+refused-small b number value e = rw e at (sheet-small b)
+
+-- ---- the journal
+
+-- An answer's places, by its case.
+pub clean-small : (o : Opening) (l : Ledger) → SmallOpening o → o ≡ found.Clean l → l .place ≤ 8192
+clean-small o l h e = rw e at h
+
+pub torn-small : (o : Opening) (l : Ledger) (place : ℕ) → SmallOpening o → o ≡ found.Torn l place → (l .place ≤ 8192) × (place ≤ 8192)
+torn-small o l place h e = rw e at h
+
+pub damaged-small : (o : Opening) (number value : ℕ) → SmallOpening o → o ≡ found.Refused number value → value ≤ 8192
+damaged-small o number value h e = rw e at h
+
+pub verdict-small : (v : Verdict) (number value : ℕ) → SmallVerdict v → v ≡ Refused number value → value ≤ 8192
+verdict-small v number value h e = rw e at h
+
+-- What holds in each case of an opening holds of it: a place is the ledger's, which lies in the area.
+opening-by : (s : Season) (area : List ℕ) (P : Opening → Type 0) → P (found.Refused 8 0)
+    → (length area ≤ 8192 → (l : Ledger) → l .place ≤ length area → P (found.Clean l))
+    → (length area ≤ 8192 → (l : Ledger) → l .place ≤ length area → P (found.Torn l (l .place)))
+    → (length area ≤ 8192 → (l : Ledger) → l .place ≤ length area → P (found.Refused 9 (l .place))) → P (opening s area)
+unfolding opening behind
+opening-by s area P long clean torn damaged = size (leb (length area) 8192) refl
+  where
+    l : Ledger
+    l = replayed s area .ledger
+
+    rest : List ℕ
+    rest = replayed s area .rest
+
+    part : (b : Bool) → length area ≤ 8192 → P (elim b [ true ↦ found.Torn l (l .place) | false ↦ found.Refused 9 (l .place) ])
+    part true h = torn h l (replayed-place s area)
+    part false h = damaged h l (replayed-place s area)
+
+    tail : (b : Bool) → length area ≤ 8192
+        → P (elim b [ true ↦ found.Clean l | false ↦ elim (tornAt (seasonDays s) (length area) l (trim rest)) [ true ↦ found.Torn l (l .place) | false ↦ found.Refused 9 (l .place) ] ])
+    tail true h = clean h l (replayed-place s area)
+    tail false h = part (tornAt (seasonDays s) (length area) l (trim rest)) h
+
+    size : (b : Bool) → leb (length area) 8192 ≡ b
+        → P (elim b [ true ↦ behind (seasonDays s) (length area) (replayed s area .ledger) (replayed s area .rest) | false ↦ found.Refused 8 0 ])
+    size true e = tail (blank rest) (leb-true (length area) 8192 e)
+    size false e = long
+
+pub opened-small : (sheet area : List ℕ) → SmallOpening (sheetOpened sheet area)
+opened-small sheet area =
+    on-sheet found.Refused (λ s. opening s area) sheet SmallOpening (λ number value e. refused-small sheet number value e)
+    (λ s v q o. opening-by s area SmallOpening (omega arith) (λ h l i. omega arith) (λ h l i. (omega arith, omega arith)) (λ h l i. omega arith))
+
+-- ---- rain, irrigation and close
+
+entry-small : (days size : ℕ) (l : Ledger) (e : Entry) → SmallVerdict (refusal days size l e)
+unfolding refusal
+entry-small days size l e =
+    or-small _ _ 14 0 (or-small _ _ 13 0 (or-small _ _ 12 0 (or-small Accepted (ltb days (l .day)) 11 0 tt (omega arith)) (omega arith)) (omega arith)) (omega arith)
+
+-- A verdict and a start place.
+record Begins (r : Recorded) : Type 0 where
+  verdict : SmallVerdict (r .verdict)
+  start : r .stores .start ≤ 8192
+
+judged-begins : (v : Verdict) (w : Stores) → SmallVerdict v → w .start ≤ 8192 → Begins (judged v w)
+unfolding judged
+judged-begins Accepted w a h = record { verdict = tt; start = h }
+judged-begins (Refused number value) w a h = record { verdict = a; start = omega arith }
+
+recorded-begins : (sheet area : List ℕ) (e : Entry) → Begins (sheetRecorded sheet area e)
+unfolding recorded recordedOn storesOf
+recorded-begins sheet area e =
+    on-sheet (λ number value. judged (Refused number value) noStores) (λ s. recorded s area e) sheet Begins
+    (λ number value v. judged-begins (Refused number value) noStores (refused-small sheet number value v) (omega arith))
+    (λ s v q o. opening-by s area (λ o. Begins (recordedOn (seasonDays s) (length area) e o))
+    (judged-begins (Refused 8 0) noStores (omega arith) (omega arith))
+    (λ h l i. judged-begins (refusal (seasonDays s) (length area) l e) (storesOf l e) (entry-small (seasonDays s) (length area) l e) (omega arith))
+    (λ h l i. judged-begins (Refused 10 (l .place)) noStores (omega arith) (omega arith))
+    (λ h l i. judged-begins (Refused 9 (l .place)) noStores (omega arith) (omega arith)))
+
+few-stores : (v : Verdict) (w : Stores) → StoresOccur v w → w .count ≤ 8192
+few-stores Accepted w h = omega (arith, h .few)
+few-stores (Refused number value) w h = omega (arith, ap (λ (x : Stores). x .count) (h .1))
+
+pub recorded-small : (sheet area : List ℕ) (e : Entry) → SmallRecorded (sheetRecorded sheet area e)
+recorded-small sheet area e =
+    let b = recorded-begins sheet area e in
+    record { verdict = b .verdict; start = b .start; count = few-stores (sheetRecorded sheet area e .verdict) (sheetRecorded sheet area e .stores) (claims .recorded-occurs sheet area e) }
+
+-- ---- mend
+
+abbrev EachUpTo : ℕ → List ℕ → Type 0
+EachUpTo most xs = (i : ℕ) → getD xs i 0 ≤ most
+
+each-append : (most : ℕ) (xs ys : List ℕ) → EachUpTo most xs → EachUpTo most ys → EachUpTo most (xs ++ ys)
+each-append most [] ys h g i = g i
+each-append most (x ∷ xs) ys h g zero = h 0
+each-append most (x ∷ xs) ys h g (suc i) = each-append most xs ys (λ j. h (suc j)) g i
+
+each-take : (most n : ℕ) (xs : List ℕ) → EachUpTo most xs → EachUpTo most (take n xs)
+each-take most zero xs h i = omega arith
+each-take most (suc n) [] h i = omega arith
+each-take most (suc n) (x ∷ xs) h zero = h 0
+each-take most (suc n) (x ∷ xs) h (suc i) = each-take most n xs (λ j. h (suc j)) i
+
+each-one : (most x : ℕ) → x ≤ most → EachUpTo most (x ∷ [])
+each-one most x h zero = h
+each-one most x h (suc i) = omega arith
+
+zeros-up-to : (most : ℕ) → EachUpTo most (0 ∷ 0 ∷ 0 ∷ [])
+zeros-up-to most zero = omega arith
+zeros-up-to most (suc zero) = omega arith
+zeros-up-to most (suc (suc zero)) = omega arith
+zeros-up-to most (suc (suc (suc i))) = omega arith
+
+stains-up-to : (most p : ℕ) (bs : List ℕ) → p + length bs ≤ most → EachUpTo most (stains p bs)
+unfolding stains
+stains-up-to most p [] h = λ i. omega arith
+stains-up-to most p (b ∷ bs) h = test (eqb b 0xFF) (stains-up-to most (suc p) bs (omega arith))
+  where
+    test : (t : Bool) → EachUpTo most (stains (suc p) bs) → EachUpTo most (elim t [ true ↦ stains (suc p) bs | false ↦ stains (suc p) bs ++ (p ∷ []) ])
+    test true g = g
+    test false g = each-append most (stains (suc p) bs) (p ∷ []) g (each-one most p (omega arith))
+
+-- A verdict and the places.
+record Wipes (r : Mended) : Type 0 where
+  verdict : SmallVerdict (r .verdict)
+  places : EachUpTo 8192 (r .places)
+
+mended-wipes : (sheet area : List ℕ) → Wipes (sheetMended sheet area)
+unfolding mended mendedOn
+mended-wipes sheet area =
+    on-sheet notMended (λ s. mended s area) sheet Wipes
+    (λ number value v. record { verdict = refused-small sheet number value v; places = zeros-up-to 8192 })
+    (λ s v q o. opening-by s area (λ o. Wipes (mendedOn area o))
+    (record { verdict = omega arith; places = zeros-up-to 8192 })
+    (λ h l i. record { verdict = tt; places = zeros-up-to 8192 })
+    (λ h l i. record {
+      verdict = tt;
+      places = each-take 8192 3 (stains (l .place) (drop (l .place) area) ++ (0 ∷ 0 ∷ 0 ∷ [])) (each-append 8192 (stains (l .place) (drop (l .place) area)) (0 ∷ 0 ∷ 0 ∷ []) (stains-up-to 8192 (l .place) (drop (l .place) area) (omega (arith, length-drop (l .place) area))) (zeros-up-to 8192));
+    })
+    (λ h l i. record { verdict = omega arith; places = zeros-up-to 8192 }))
+
+pub mended-small : (sheet area : List ℕ) → SmallMended (sheetMended sheet area)
+mended-small sheet area =
+    let w = mended-wipes sheet area in
+    record { verdict = w .verdict; count = omega (arith, claims .mended-occurs sheet area .0 .few); places = w .places }
+
+-- ---- plan and table
+
+pub planned-refused-small : (p : Planned) (number value : ℕ) → SmallPlanned p → p ≡ planned.Refused number value → value ≤ 8192
+planned-refused-small p number value h e = rw e at h
+
+pub rows-small : (t : Tabled) (count : ℕ) → SmallTabled t → t ≡ table.Rows count → count ≤ 8192
+rows-small t count h e = rw e at h
+
+pub tabled-refused-small : (t : Tabled) (number value : ℕ) → SmallTabled t → t ≡ table.Refused number value → value ≤ 8192
+tabled-refused-small t number value h e = rw e at h
+
+module _ (s : Season) (sown : Sown s) (out : List ℕ) where
+  -- Refusal 16 carries a season day.
+  to-small : (e most : ℕ) (p : Plan) → most ≤ 8192 → ((f : ℕ) → p ≡ refused f → f ≤ most) → SmallPlanned (answerTo e out p .0)
+  unfolding answerTo
+  to-small e most (depths xs) m h = tt
+  to-small e most (refused f) m h = omega (arith, h f refl)
+
+  day-small : (l : Ledger) → l .day ≤ seasonDays s → SmallPlanned (answer s (l .day) (l .depletion) (waiting l) out .0)
+  unfolding answer
+  day-small l h = go (ltb (length out) (daysLeft s (l .day)))
+    where
+      p : Plan
+      p = plan (outlook s (l .day) (waiting l)) (daysLeft s (l .day)) (l .day) (l .depletion)
+
+      go : (b : Bool) → SmallPlanned (elim b as (λ x. Planned × List ℕ) [ true ↦ (planned.Refused 15 0, out) | false ↦ answerTo (s .efficiency) out p ] .0)
+      go true = omega arith
+      go false = to-small (s .efficiency) 365 p (omega arith) (λ f e. omega (arith, plans.claims .refused-first _ _ _ _ f e .0 .to, sown .valid .year))
+
+  ledger-small : (l : Ledger) → SmallPlanned (plannedOn s out (found.Clean l) .0)
+  unfolding plannedOn
+  ledger-small l = go (ltb (seasonDays s) (l .day)) refl
+    where
+      go : (b : Bool) → ltb (seasonDays s) (l .day) ≡ b
+          → SmallPlanned (cond {A = Planned × List ℕ} b (planned.Refused 11 0, out) (answer s (l .day) (l .depletion) (waiting l) out) .0)
+      go true e = omega arith
+      go false e = day-small l (ltb-false (seasonDays s) (l .day) e)
+
+  rows-few : SmallTabled (tabled s out .0)
+  unfolding tabled
+  rows-few = go (ltb (length out) (rowCount s * 6))
+    where
+      go : (b : Bool) → SmallTabled (cond {A = Tabled × List ℕ} b (table.Refused 15 0, out) (table.Rows (rowCount s), definition.table s ++ drop (rowCount s * 6) out) .0)
+      go true = omega arith
+      go false = omega (arith, rows-at-most s (sown .valid))
+
+pub planned-small : (sheet area out : List ℕ) → SmallPlanned (sheetPlanned sheet area out .0)
+unfolding plannedOn
+planned-small sheet area out =
+    on-sheet (λ number value. (planned.Refused number value, out)) (λ s. plannedOn s out (opening s area)) sheet (λ (a : Planned × List ℕ). SmallPlanned (a .0))
+    (λ number value v. refused-small sheet number value v)
+    (λ s v q o. opening-by s area (λ p. SmallPlanned (plannedOn s out p .0)) (omega arith) (λ h l i. ledger-small s o out l) (λ h l i. omega arith) (λ h l i. omega arith))
+
+pub tabled-small : (sheet out : List ℕ) → SmallTabled (sheetTabled sheet out .0)
+tabled-small sheet out =
+    on-sheet (λ number value. (table.Refused number value, out)) (λ s. tabled s out) sheet (λ (a : Tabled × List ℕ). SmallTabled (a .0))
+    (λ number value v. refused-small sheet number value v)
+    (λ s v q o. rows-few s o out)

@@ -1,0 +1,56 @@
+-- By the verdict: the stores, or the refusal.
+use mathlib.Core.Path.{ap}
+use mathlib.Core.List.{_∷_}
+use denote.Ref.{now}
+use Rattle.verdict.specs.declared.Verdict.{Verdict}
+use Rattle.exports.specs.Written.{verdictThen}
+use Rattle.exports.proofs.Over.{put-refusal, put-answer}
+use Rattle.exports.proofs.Bounds.{verdict-small}
+use borrow.Author.Needs.{needs}
+use Rattle.exports.proofs.put_recorded.Statement.{statement}
+use Rattle.exports.proofs.put_recorded.Tie as tie
+
+enum-told : tie.Need-enum-told
+enum-told c = search needs
+
+put-two-requires : tie.Need-put-two-requires
+put-two-requires c κs = search needs
+
+put-stores-requires : tie.Need-put-stores-requires
+put-stores-requires c κs = search needs
+
+enum-known-verdict : tie.Need-enum-known-verdict
+enum-known-verdict c = search needs
+
+put-two-requires-2 : tie.Need-put-two-requires-2
+put-two-requires-2 c κs =
+    let at-verdict = c .before .before in
+    let start = at-verdict .before .before .before .before in
+    verdict-small (start .args .r .verdict) _ _ (start .pre .verdict) (at-verdict .verdict .given .1)
+
+returns : tie.Need-returns
+returns c =
+    let at-two = c .before .before in
+    let at-told = at-two .before .before in
+    let start = at-told .before .before .before .before in
+    let w = start .args .r .stores in
+    put-answer (now (start .args .out)) (at-two .put-two .ensures) (w .start ∷ w .count ∷ w .bytes) (c .put-stores .ensures) (ap (λ (v : Verdict). verdictThen v (w .start ∷ w .count ∷ w .bytes)) (at-told .enum-told .given .1))
+
+returns-2 : tie.Need-returns-2
+returns-2 c =
+    let at-verdict = c .before .before .before in
+    let start = at-verdict .before .before .before .before in
+    let w = start .args .r .stores in
+    put-refusal (now (start .args .out)) (c .put-two2 .ensures) (ap (λ (v : Verdict). verdictThen v (w .start ∷ w .count ∷ w .bytes)) (at-verdict .verdict .given .1))
+
+pub put-recorded-spec : {M : Type 1} → statement M
+put-recorded-spec =
+    tie.close
+    (tie.spec
+    enum-told
+    put-two-requires
+    put-stores-requires
+    enum-known-verdict
+    put-two-requires-2
+    returns
+    returns-2)

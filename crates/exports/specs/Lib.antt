@@ -1,0 +1,4 @@
+-- What the exported calls write: an answer's numbers, over the first numbers of the caller's array; that places and counts fit there; what is proved.
+pub mod Written
+pub mod Small
+pub mod Claims
