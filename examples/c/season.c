@@ -1,0 +1,88 @@
+/* A season of four days on the small sheet of document 01, with two power cuts. Prints the ledger. */
+#include "balladsky.h"
+#include <stdio.h>
+#include <stdlib.h>
+#include <string.h>
+
+/* 1 9; 1 1 1 1; 40 100 60; 500 and eleven 0; twelve 0; 100 20 20 50; 75; 0; turns 127. */
+static const uint8_t sheet[] = {
+    1, 9, 1, 1, 1, 1, 40, 100, 60, 0xF4, 3, 0, 0, 0, 0, 0, 0, 0, 0, 0, 0, 0,
+    0, 0, 0, 0, 0, 0, 0, 0, 0, 0, 0, 0, 100, 20, 20, 50, 75, 0, 127,
+};
+
+/* The journal's memory. */
+static uint8_t area[64];
+
+static uint32_t out[BALLADSKY_OUT];
+
+static void must(const char *what) {
+    if (out[0] != 0) {
+        fprintf(stderr, "%s: refused %u %u\n", what, out[0], out[1]);
+        exit(1);
+    }
+}
+
+/* The first `done` stores of an entry, lowest place first. */
+static void store(uint32_t done) {
+    for (uint32_t i = 0; i < done; i++)
+        area[out[2] + i] = (uint8_t)out[4 + i];
+}
+
+/* What firmware does when it comes up: open, and mend what a cut left. */
+static void come_up(void) {
+    controller_open(sheet, sizeof sheet, area, sizeof area, out);
+    if (out[0] == 10) {
+        printf("torn at %u\n", out[1]);
+        controller_mend(sheet, sizeof sheet, area, sizeof area, out);
+        must("mend");
+        for (uint32_t i = 0; i < out[2]; i++)
+            area[out[3 + i]] = 0xFF;
+        printf("mended %u place%s\n", out[2], out[2] == 1 ? "" : "s");
+    } else {
+        must("open");
+    }
+}
+
+typedef void entry_call(const uint8_t *, size_t, const uint8_t *, size_t, uint32_t, uint32_t *);
+
+/* Enters water; the power goes after `cut` stores, and it is entered again. */
+static void enter_with_cut(const char *name, entry_call *call, uint32_t amount, uint32_t cut) {
+    call(sheet, sizeof sheet, area, sizeof area, amount, out);
+    must(name);
+    printf("%s %u: power cut after %u of %u stores\n", name, amount, cut, out[3]);
+    store(cut);
+    come_up();
+    call(sheet, sizeof sheet, area, sizeof area, amount, out);
+    must(name);
+    printf("%s %u: %u stores from %u\n", name, amount, out[3], out[2]);
+    store(out[3]);
+}
+
+static void close_day(unsigned day) {
+    controller_close(sheet, sizeof sheet, area, sizeof area, out);
+    must("close");
+    store(out[3]);
+    printf("day %u closed\n", day);
+}
+
+int main(void) {
+    static const char *const names[] = {
+        "open day", "depletion", "waiting rain", "waiting irrigation", "season rain", "season irrigation", "season use", "season percolation", "place",
+    };
+    uint32_t depths[BALLADSKY_DEPTHS];
+    memset(area, 0xFF, sizeof area);
+    enter_with_cut("rain", controller_rain, 300, 2);
+    close_day(1);
+    close_day(2);
+    controller_plan(sheet, sizeof sheet, area, sizeof area, depths, BALLADSKY_DEPTHS, out);
+    must("plan");
+    printf("plan: %u watering%s, net %u, gross %u\n", out[2], out[2] == 1 ? "" : "s", out[3], out[4]);
+    enter_with_cut("irrigation", controller_irrigation, depths[0], 1);
+    close_day(3);
+    close_day(4);
+    controller_open(sheet, sizeof sheet, area, sizeof area, out);
+    must("open");
+    for (int i = 0; i < 9; i++)
+        printf("%s %u\n", names[i], out[2 + i]);
+    return 0;
+}
