@@ -1,0 +1,591 @@
+//! Checks the plain implementation itself: against document 01's own numbers, a second reader of sheets, slow rules, every choice of
+//! waterings in small seasons, the book, and a literal reading of what an opening finds.
+//!
+//!     cargo run --release --manifest-path harness/Cargo.toml --bin selfcheck [SEED [PERCENT OF THE ROUNDS]]
+use harness::plain::book::{self, Book, Call};
+use harness::plain::*;
+use harness::random::{self, small, with, Dice};
+
+struct Tally { compared: u64, wrong: u64 }
+
+impl Tally {
+    fn same<T: PartialEq + std::fmt::Debug>(&mut self, what: impl FnOnce() -> String, got: T, want: T) {
+        self.compared += 1;
+        if got != want {
+            self.wrong += 1;
+            if self.wrong <= 40 {
+                println!("MISMATCH {}: got {:?}, want {:?}", what(), got, want);
+            }
+        }
+    }
+    fn report(self, name: &str) -> (u64, u64) {
+        println!("{name}: {} compared, {} mismatches", self.compared, self.wrong);
+        (self.compared, self.wrong)
+    }
+}
+
+fn tally() -> Tally {
+    Tally { compared: 0, wrong: 0 }
+}
+
+const FF: [u8; 8_192] = [0xff; 8_192];
+
+// ------------------------------------------------------------------ document 01's own numbers
+
+fn printed(sheet: &[u8]) -> String {
+    let mut rows = [0; 222];
+    let t = table(sheet, &mut rows);
+    if t.number != 0 {
+        return format!("{} {}\n", t.number, t.value);
+    }
+    rows[..6 * t.rows].chunks(6).map(|r| r.iter().map(u32::to_string).collect::<Vec<_>>().join(" ") + "\n").collect()
+}
+
+fn closes(days: u32) -> Vec<u8> {
+    (1..=days).flat_map(|d| book::bytes(book::Entry::Close(d))).collect()
+}
+
+fn opened_after(f: &[u32; 40], entries: &[u8]) -> Ledger {
+    let mut area = entries.to_vec();
+    area.resize(entries.len() + 9, 0xff);
+    match open(&write_sheet(f), &area) {
+        Opened::Clean(l) => l,
+        other => panic!("{other:?}"),
+    }
+}
+
+fn daggers() -> (u64, u64) {
+    let mut t = tally();
+    // Numbers in the sheet's form: field 39 has room for each of them.
+    for (v, bytes) in [(300, &[0xac, 2][..]), (127, &[0x7f]), (128, &[0x80, 1]), (120_000, &[0xc0, 0xa9, 7])] {
+        let sheet = write_sheet(&with(small(127), &[(39, v)]));
+        t.same(|| format!("bytes of {v}"), &sheet[sheet.len() - 1 - bytes.len()..sheet.len() - 1], bytes);
+        let deep = write_sheet(&with(small(127), &[(34, 400), (35, 300), (36, 300), (39, v)]));
+        t.same(|| format!("{v} read back"), read_sheet(&deep).map(|s| s.opening), Ok(v));
+        let r = rain(&write_sheet(&small(127)), &FF[..9], v);
+        t.same(|| format!("rain {v}"), &r.bytes[1..r.count], bytes);
+    }
+    let mut sheet = write_sheet(&small(127));
+    let at = sheet.len() - 2;
+    sheet.splice(at..at + 1, [0x80, 0]);
+    t.same(|| "80 00".into(), read_sheet(&sheet).err(), Some((2, at + 1)));
+    t.same(|| "01 80 00".into(), open(&write_sheet(&small(127)), &[1, 0x80, 0, 255, 255]), Opened::Refused(9, 0));
+    // Crop need, seen as the first days' use from a full, deep soil.
+    let deep = [(34, 400), (35, 300), (36, 300)];
+    let kc = |dev: (u32, u32), late: u32| {
+        let f = with(with(small(127), &deep), &[(4, 30), (6, 30), (7, dev.0), (8, dev.1), (9, late)]);
+        with(f, &(10..=21).map(|i| (i, 450)).collect::<Vec<_>>())
+    };
+    let need = |f: &[u32; 40], day| opened_after(f, &closes(day)).used - opened_after(f, &closes(day - 1)).used;
+    t.same(|| "development day 10".into(), need(&kc((30, 115), 115), 11), 263);
+    t.same(|| "late day 1".into(), need(&kc((120, 120), 35), 33), 527);
+    t.same(|| "falling development day 1".into(), need(&kc((120, 35), 35), 2), 527);
+    // Effective rain, as a whole month's rain in the table.
+    for (q, e) in [(10_000, 8_400), (25_000, 15_000), (25_001, 15_000), (60_000, 18_500)] {
+        t.same(|| format!("effective {q}"), effective(q), e);
+        let f = with(small(127), &[(2, 1), (3, 10), (4, 10), (5, 10), (22, q)]);
+        let mut rows = [0; 222];
+        let made = table(&write_sheet(&f), &mut rows);
+        t.same(|| format!("January {q}"), (made.rows, rows[3] + rows[9] + rows[15]), (3, e));
+    }
+    let hundred = [(22, 101)];
+    let mut rows = [0; 222];
+    table(&write_sheet(&with(with(small(127), &hundred), &[(1, 12), (2, 29)])), &mut rows);
+    t.same(|| "rain of 1 January".into(), &rows[6..10], &[1, 1, rows[8], 3][..]);
+    table(&write_sheet(&with(with(small(127), &hundred), &[(2, 31)])), &mut rows);
+    t.same(|| "rain of 31 January".into(), &rows[..4], &[1, 3, rows[2], 4][..]);
+    for (d1, u) in [(1_000, 500), (1_001, 499), (1_500, 250)] {
+        t.same(|| format!("use at {d1}"), crop_use(500, 2_000, 1_000, d1), u);
+        let f = with(small(127), &[(7, 100), (39, d1)]);
+        t.same(|| format!("closed from {d1}"), opened_after(&f, &[3, 1]).used, u);
+    }
+    t.same(|| "gross at 45".into(), gross(6_280, 45), 13_956);
+    t.same(|| "gross at 75".into(), gross(6_280, 75), 8_374);
+    // The torn and the damaged journal.
+    let s = write_sheet(&small(127));
+    let blank = Ledger { day: 1, ..Ledger::default() };
+    t.same(|| "01 AC FF FF".into(), open(&s, &[1, 0xac, 255, 255]), Opened::Torn(blank, 0));
+    t.same(|| "its mending".into(), mend(&s, &[1, 0xac, 255, 255]), Mended { count: 2, places: [1, 0, 0], ..Mended::default() });
+    t.same(|| "FF AC FF FF".into(), open(&s, &[255, 0xac, 255, 255]), Opened::Refused(9, 0));
+    t.same(|| "its mending".into(), mend(&s, &[255, 0xac, 255, 255]).number, 9);
+    // The small sheet.
+    t.same(|| "C by day".into(), [1, 2, 3, 4].map(|d| need(&with(small(127), &deep), d)), [200, 500, 500, 300]);
+    let planned = |turns| {
+        let mut depths = [7; 6];
+        let p = plan(&write_sheet(&small(turns)), &FF[..20], &mut depths);
+        (p.number, p.value, p.waterings, p.net, p.gross, depths)
+    };
+    t.same(|| "turns 127".into(), planned(127), (0, 0, 1, 700, 934, [0, 0, 700, 0, 7, 7]));
+    t.same(|| "turns 2".into(), planned(2), (16, 4, 0, 0, 0, [7; 6]));
+    t.same(|| "turns 10".into(), planned(10), (0, 0, 2, 1_200, 1_600, [0, 200, 0, 1_000, 7, 7]));
+    t.same(|| "turns 1".into(), planned(1), (16, 3, 0, 0, 0, [7; 6]));
+    t.same(|| "printed".into(), printed(&s), "1 1 700 0 700 934\n1 2 800 0 800 1067\n".into());
+    t.same(|| "printed, no sheet".into(), printed(&[]), "1 0\n".into());
+    t.report("document 01's numbers")
+}
+
+// ------------------------------------------------------------------ random sheets
+
+/// The sheet read a second time, byte by byte and by the list of refusals.
+fn slow_sheet(sheet: &[u8]) -> Result<[u32; 40], (u32, usize)> {
+    let (mut f, mut field, mut shift) = ([0u32; 40], 0, 0);
+    for (at, &b) in sheet.iter().enumerate() {
+        if field == 40 {
+            return Err((3, at));
+        }
+        f[field] += (b as u32 % 128) << shift;
+        if b >= 0x80 {
+            if shift == 14 {
+                return Err((2, at));
+            }
+            shift += 7;
+        } else {
+            if b == 0 && shift > 0 {
+                return Err((2, at));
+            }
+            (field, shift) = (field + 1, 0);
+        }
+    }
+    if field < 40 {
+        return Err((1, sheet.len()));
+    }
+    for i in 1..=40usize {
+        let (low, high) = match i {
+            1 => (1, 12),
+            2 => (1, MONTHS[f[0] as usize - 1]),
+            3..=6 => (1, 200),
+            7..=9 => (10, 200),
+            10..=21 => (0, 1_500),
+            22..=33 => (0, 60_000),
+            34 => (1, 400),
+            35 | 36 => (10, 300),
+            37 => (5, 80),
+            38 => (1, 100),
+            39 => (0, 120_000),
+            _ => (0, 127),
+        };
+        if f[i - 1] < low || f[i - 1] > high {
+            return Err((4, i));
+        }
+    }
+    let grown = f[2] + f[3];
+    if f[2] + f[3] + f[4] + f[5] > 365 {
+        Err((5, 0))
+    } else if f[34] > f[35] {
+        Err((6, 0))
+    } else if f[38] > f[33] * (f[34] + (f[35] - f[34]) / grown) {
+        Err((7, 0))
+    } else {
+        Ok(f)
+    }
+}
+
+fn sheet_bytes(g: &mut Dice, percent: u32) -> (u64, u64) {
+    let mut t = tally();
+    let mut seen = [0u32; 9];
+    for _ in 0..2_000 * percent {
+        let days = g.pick(&[4, 30, 365]);
+        let mut sheet = write_sheet(&random::spoilt_fields(g, days));
+        random::spoil_sheet(g, &mut sheet);
+        let want = slow_sheet(&sheet);
+        seen[want.map_or_else(|e| e.0, |_| 0) as usize] += 1;
+        let got = read_sheet(&sheet);
+        t.same(|| format!("sheet {sheet:02x?}"), got.as_ref().map(|s| s.days).map_err(|e| *e), want.map(|f| f[2] + f[3] + f[4] + f[5]));
+        if let (Ok(s), Ok(f)) = (got, want) {
+            let back: Vec<u32> = [s.month as u32 + 1, s.date].into_iter().chain(s.stages).chain(s.kc).chain(s.eto).chain(s.rain)
+                .chain([s.available, s.sown, s.full, s.fraction, s.efficiency, s.opening, s.turns]).collect();
+            t.same(|| format!("fields {f:?}"), back, f.to_vec());
+        }
+    }
+    println!("sheets by refusal, 0 accepted: {:?}", &seen[..8]);
+    t.report("sheet bytes, second reader")
+}
+
+/// Tables and plans of long seasons by the slow rules.
+fn long_seasons(g: &mut Dice, percent: u32) -> (u64, u64) {
+    let mut t = tally();
+    let mut refused = 0;
+    for _ in 0..30 * percent {
+        let f = random::fields(g, 365);
+        let sheet = write_sheet(&f);
+        let s = read_sheet(&sheet).unwrap();
+        let mut rows: Vec<[u32; 6]> = Vec::new();
+        for day in 1..=s.days {
+            let (month, date, ..) = book::calendar(&s, day);
+            let decade = if date <= 10 { 1 } else if date <= 20 { 2 } else { 3 };
+            if day == 1 || date == 1 || date == 11 || date == 21 {
+                rows.push([month as u32 + 1, decade, 0, 0, 0, 0]);
+            }
+            let row = rows.last_mut().unwrap();
+            row[2] += book::need(&s, day);
+            row[3] += book::planned_rain(&s, day);
+        }
+        for row in &mut rows {
+            row[4] = row[2].max(row[3]) - row[3];
+            row[5] = (row[4] * 100 + s.efficiency - 1) / s.efficiency;
+        }
+        let mut got = [0; 222];
+        let made = table(&sheet, &mut got);
+        t.same(|| format!("table {f:?}"), (made.rows, &got[..6 * made.rows]), (rows.len(), rows.as_flattened()));
+        // The plan as the document tells it: find the failing day from the start, each time anew.
+        let (area, l) = random::journal(g, &s, &sheet, 4_000);
+        let mut got = [9; 366];
+        let p = plan(&sheet, &area, &mut got);
+        // A lone 01 after the last entry: torn, or damaged once all days are closed. Then the refusals' order.
+        let mut spoilt = area.clone();
+        spoilt[l.place] = 1;
+        let refusal = |area: &[u8], room: usize| {
+            let mut buffer = [9; 365];
+            let p = plan(&sheet, area, &mut buffer[..room]);
+            (p.number, p.value, p.waterings + p.net + p.gross, buffer == [9; 365])
+        };
+        let ended = l.day > s.days;
+        t.same(|| format!("spoilt plan {f:?}"), refusal(&spoilt, 0), (if ended { 9 } else { 10 }, l.place, 0, true));
+        t.same(|| "long area".into(), refusal(&[0; 8_193], 0), (8, 0, 0, true));
+        if ended {
+            t.same(|| format!("closed plan {f:?}"), refusal(&area, 0), (11, 0, 0, true));
+            continue;
+        }
+        t.same(|| format!("short buffer {f:?}"), refusal(&area, (s.days - l.day) as usize), (15, 0, 0, true));
+        let (number, value, depths) = slow_plan(&s, &l);
+        refused += (number == 16) as u32;
+        t.same(|| format!("plan {f:?}"), (p.number, p.value), (number, value));
+        let mut want = [9; 366];
+        if number == 0 {
+            want[..depths.len()].copy_from_slice(&depths);
+            let net: u32 = depths.iter().sum();
+            let count = depths.iter().filter(|&&d| d > 0).count() as u32;
+            t.same(|| "totals".into(), (p.waterings, p.net, p.gross), (count, net, (net * 100 + s.efficiency - 1) / s.efficiency));
+        }
+        t.same(|| format!("depths {f:?}"), got, want);
+    }
+    println!("long plans refused: {refused}");
+    t.report("long seasons, slow rules")
+}
+
+/// Day after day with the given depths: the first failing day's index, and each day's max(0, D − w) before its depth.
+fn walk_days(s: &Season, l: &Ledger, depths: &[u32], before: &mut Vec<u32>) -> Option<usize> {
+    before.clear();
+    let mut d = l.depletion;
+    for (i, depth) in depths.iter().enumerate() {
+        let day = l.day + i as u32;
+        let rain = if i == 0 { l.waiting_rain + l.waiting_irrigation } else { book::planned_rain(s, day) };
+        before.push(d.saturating_sub(rain));
+        d = d.saturating_sub(rain + depth) + book::need(s, day);
+        if d > book::soil(s, day).1 {
+            return Some(i);
+        }
+    }
+    None
+}
+
+fn is_turn(s: &Season, day: u32) -> bool {
+    s.turns >> ((day - 1) % 7) & 1 == 1
+}
+
+fn slow_plan(s: &Season, l: &Ledger) -> (u32, usize, Vec<u32>) {
+    let mut depths = vec![0; (s.days - l.day + 1) as usize];
+    let (mut last, mut before) = (None, Vec::new());
+    while let Some(failing) = walk_days(s, l, &depths, &mut before) {
+        let first = last.map_or(0, |i: usize| i + 1);
+        let turn = (first..=failing).rev().find(|&i| is_turn(s, l.day + i as u32));
+        match turn {
+            Some(i) if before[i] > 0 => (depths[i], last) = (before[i], Some(i)),
+            _ => return (16, l.day as usize + failing, Vec::new()),
+        }
+    }
+    (0, 0, depths)
+}
+
+// ------------------------------------------------------------------ the planner by brute force
+
+/// Depth 0 or fill is enough. Take any choice x that holds, S its irrigated days, and let y bring
+/// max(0, D − w) to zero with the smallest depth on each day of S, and give nothing elsewhere. Then
+/// y's depletion is never above x's: on a day of S it is C, the least there is; elsewhere the day's
+/// rule max(0, D − w) + C rises with D, and both have the same w. So y holds wherever x does, and
+/// its irrigated days are among S (a fill may be 0), so up to each day they are no more than x's.
+/// Every least count and every first hopeless day is thus found among subsets of turn days, filled.
+/// Random depths are thrown in as well, to try the argument itself.
+fn brute(g: &mut Dice, percent: u32) -> (u64, u64) {
+    let mut t = tally();
+    let (mut held, mut refused, mut tried, mut loose) = (0, 0, 0u64, 0u64);
+    let mut many = 0;
+    for _ in 0..250 * percent {
+        let mut f = random::fields(g, 13);
+        f[33] = g.pick(&[20, 60, 140]);
+        f[35] = g.of(10, 60);
+        f[34] = g.of(10, f[35]);
+        if g.one_in(2) {
+            f[36] = g.of(30, 80);
+        }
+        // Needs of a third of the ready water up to all of it, so that many waterings are wanted.
+        let day1 = f[33] * (f[34] + (f[35] - f[34]) / (f[2] + f[3]));
+        let cap = (day1 * f[36] / 100 / g.of(1, 3)).min(1_500);
+        let dry = g.one_in(2);
+        for i in 9..21 {
+            f[i] = g.of(cap / 3, cap);
+            f[12 + i] /= if dry { 20 } else { 1 };
+        }
+        f[38] = g.of(0, day1 * f[36] / 100);
+        f[39] = g.of(0, 127) | g.of(0, 127);
+        let sheet = write_sheet(&f);
+        let s = read_sheet(&sheet).unwrap();
+        let (area, l) = random::journal(g, &s, &sheet, 80);
+        if l.day > s.days {
+            continue;
+        }
+        let days = (s.days - l.day + 1) as usize;
+        let numbers: Vec<(i64, i64, i64)> = (0..days).map(|i| {
+            let day = l.day + i as u32;
+            let w = if i == 0 { l.waiting_rain + l.waiting_irrigation } else { book::planned_rain(&s, day) };
+            (w as i64, book::need(&s, day) as i64, book::soil(&s, day).1 as i64)
+        }).collect();
+        let turns: Vec<usize> = (0..days).filter(|&i| is_turn(&s, l.day + i as u32)).collect();
+        // least[j]: fewest irrigated days to day j among choices that hold to the end; reach: days held at most.
+        let (mut least, mut reach) = (vec![u32::MAX; days], 0);
+        for subset in 0u32..1 << turns.len() {
+            let (mut d, mut count, mut counts, mut ok) = (l.depletion as i64, 0, vec![0; days], true);
+            for (i, &(w, c, r)) in numbers.iter().enumerate() {
+                d = (d - w).max(0);
+                if turns.iter().position(|&x| x == i).is_some_and(|b| subset >> b & 1 == 1) && d > 0 {
+                    d = 0;
+                    count += 1;
+                }
+                d += c;
+                counts[i] = count;
+                if d > r {
+                    ok = false;
+                    break;
+                }
+                reach = reach.max(i + 1);
+            }
+            tried += 1;
+            if ok {
+                least.iter_mut().zip(&counts).for_each(|(a, b)| *a = (*a).min(*b));
+            }
+        }
+        let mut depths = vec![9; days];
+        let p = plan(&sheet, &area, &mut depths);
+        if reach < days {
+            refused += 1;
+            t.same(|| format!("no choice {f:?} {area:02x?}"), (p.number, p.value), (16, l.day as usize + reach));
+            t.same(|| "unaltered".into(), depths.iter().all(|&d| d == 9), true);
+        } else {
+            held += 1;
+            many += (p.waterings > 1) as u32;
+            t.same(|| format!("a choice {f:?} {area:02x?}"), (p.number, p.value), (0, 0));
+            t.same(|| format!("holds {f:?}"), walk_days(&s, &l, &depths, &mut Vec::new()), None);
+            t.same(|| format!("turns {f:?}"), depths.iter().enumerate().all(|(i, &d)| d == 0 || turns.contains(&i)), true);
+            let mut count = 0;
+            for j in 0..days {
+                count += (depths[j] > 0) as u32;
+                t.same(|| format!("fewest to {j} {f:?}"), count, least[j]);
+            }
+            t.same(|| "count and net".into(), (p.waterings, p.net), (count, depths.iter().sum()));
+        }
+        for _ in 0..20 {
+            let mut x = vec![0; days];
+            for &i in &turns {
+                if g.one_in(2) {
+                    x[i] = g.of(0, 4_000);
+                }
+            }
+            let fails = walk_days(&s, &l, &x, &mut Vec::new());
+            loose += 1;
+            t.same(|| format!("random depths reach {f:?}"), fails.unwrap_or(days) <= reach, true);
+            if fails.is_none() {
+                let mut count = 0;
+                let fewer = (0..days).any(|j| {
+                    count += (x[j] > 0) as u32;
+                    count < least[j]
+                });
+                t.same(|| format!("random depths beat the plan {f:?}"), fewer, false);
+            }
+        }
+    }
+    println!("small seasons: {held} held ({many} with two waterings or more), {refused} refused; {tried} fill choices, {loose} random choices");
+    t.report("planner by brute force")
+}
+
+// ------------------------------------------------------------------ histories against the book
+
+fn asked(sheet: &[u8], area: &[u8], call: Call) -> book::Answer {
+    let stores = |r: Recorded| {
+        assert!(r.bytes[r.count..].iter().all(|&b| b == 0) && (r.number == 0 || r.start == 0 && r.count == 0));
+        let stores = (0..r.count).map(|i| (r.start + i, r.bytes[i])).collect();
+        book::Answer { number: r.number, value: r.value, stores }
+    };
+    match call {
+        Call::Rain(v) => stores(rain(sheet, area, v)),
+        Call::Irrigation(v) => stores(irrigation(sheet, area, v)),
+        Call::Close => stores(close(sheet, area)),
+        Call::Mend => {
+            let m = mend(sheet, area);
+            assert!(m.places[m.count..].iter().all(|&p| p == 0));
+            book::Answer { number: m.number, value: m.value, stores: m.places[..m.count].iter().map(|&p| (p, 0xff)).collect() }
+        }
+    }
+}
+
+fn histories(g: &mut Dice, percent: u32) -> (u64, u64) {
+    let mut t = tally();
+    let (mut calls, mut histories, mut cuts, mut longest, mut fullest) = (0u64, 0, 0u64, 0, 0);
+    let (mut seen, mut torn_openings, mut cut_mends) = ([0u64; 17], 0u64, 0u64);
+    while calls < 3_000 * percent as u64 {
+        histories += 1;
+        let (long, fill) = (histories % 16 == 0, histories % 160 == 0);
+        let f = random::fields(g, if long { 365 } else { 12 });
+        let sheet = write_sheet(&f);
+        let season = read_sheet(&sheet).unwrap();
+        let length = if fill { 8_192 } else if long { g.pick(&[900, 1_500, 8_192]) } else { g.of(0, 90) as usize };
+        let mut area = vec![0xff; length];
+        let mut book = Book::new(season.clone(), length);
+        let calm = g.one_in(2);
+        for _ in 0..if fill { 4_000 } else if long { 1_200 } else { 40 } {
+            calls += 1;
+            let torn = matches!(open(&sheet, &area), Opened::Torn(..));
+            let amount = random::amount(g);
+            let call = match g.of(0, 9) {
+                _ if torn && !g.one_in(4) => Call::Mend,
+                0 | 1 | 2 => Call::Rain(amount),
+                3 | 4 => Call::Irrigation(amount),
+                5 if g.one_in(2) => Call::Mend,
+                _ if fill && g.one_in(2) => Call::Rain(g.of(16_384, 17_000)),
+                _ => Call::Close,
+            };
+            let answer = asked(&sheet, &area, call);
+            let what = || format!("{call:?} on {area:02x?} of {f:?}");
+            t.same(what, answer.clone(), book.answer(call));
+            seen[answer.number as usize] += 1;
+            let all = answer.stores.len();
+            // Every cut, then one of them is what happened.
+            for done in 0..=all {
+                let (mut a, mut b) = (area.clone(), book.clone());
+                for &(place, byte) in &answer.stores[..done] {
+                    a[place] = byte;
+                }
+                b.call(call, done);
+                cuts += 1;
+                torn_openings += matches!(b.open(), Opened::Torn(..)) as u64;
+                cut_mends += (call == Call::Mend && done > 0 && done < all) as u64;
+                t.same(|| format!("opening after {done} of {call:?}: {a:02x?} of {f:?}"), open(&sheet, &a), b.open());
+                if !long {
+                    // what each call would answer next, on the cut journal
+                    for next in [Call::Mend, Call::Close, Call::Rain(amount)] {
+                        t.same(|| format!("{next:?} after {done} of {call:?}: {a:02x?}"), asked(&sheet, &a, next), b.answer(next));
+                    }
+                }
+            }
+            let done = if g.one_in(if calm { 12 } else { 3 }) { g.of(0, all as u32) as usize } else { all };
+            for &(place, byte) in &answer.stores[..done] {
+                area[place] = byte;
+            }
+            book.call(call, done);
+        }
+        let l = book.ledger();
+        longest = longest.max(l.day);
+        fullest = fullest.max(l.place);
+        t.same(|| "last opening".into(), open(&sheet, &area), book.open());
+    }
+    println!("{histories} histories, {calls} calls, {cuts} cuts opened, {torn_openings} of them torn, {cut_mends} within a mend; latest open day {longest}, longest journal {fullest}");
+    println!("calls by answer, 0 accepted: {:?}", seen);
+    t.report("histories against the book")
+}
+
+/// Any bytes, opened literally: the longest run of accepted entries by asking the book for each, then every
+/// entry that could be begun, one after another.
+fn any_bytes(g: &mut Dice, percent: u32) -> (u64, u64) {
+    let mut t = tally();
+    let mut seen = [0u32; 3];
+    let amounts: Vec<Vec<u8>> = (1..=120_000).map(|v| book::bytes(book::Entry::Rain(v))).collect();
+    for round in 0..200 * percent {
+        let f = random::fields(g, g_days(round));
+        let sheet = write_sheet(&f);
+        let s = read_sheet(&sheet).unwrap();
+        let area = random::any_journal(g, &s, &sheet, 1_300);
+        let room = area.len();
+        let mut book = Book::new(s.clone(), room);
+        let mut place = 0;
+        let rest = loop {
+            let rest = &area[place..];
+            let end = rest.iter().skip(1).position(|&b| b < 0x80).map(|i| i + 2);
+            let v = end.map(|e| rest[1..e].iter().rev().fold(0u64, |v, &b| v.saturating_mul(128) + (b & 0x7f) as u64)).unwrap_or(0);
+            let call = match rest.first() {
+                Some(1) => Call::Rain(v.min(1 << 31) as u32),
+                Some(2) => Call::Irrigation(v.min(1 << 31) as u32),
+                Some(3) => Call::Close,
+                _ => break rest,
+            };
+            let answer = book.answer(call);
+            let bytes: Vec<u8> = answer.stores.iter().map(|x| x.1).collect();
+            if answer.number != 0 || !rest.starts_with(&bytes) {
+                break rest;
+            }
+            book.call(call, 9);
+            place += bytes.len();
+        };
+        let l = book.ledger();
+        let waiting = l.waiting_rain + l.waiting_irrigation;
+        let stands = |e: &[u8]| {
+            e.len() <= rest.len() && (1..e.len()).any(|m| rest[..m] == e[..m] && rest[m..].iter().all(|&b| b == 0xff))
+        };
+        let begun = |tag: u8| match tag {
+            1 | 2 => amounts[..120_000.min(240_000 - waiting as usize)].iter().any(|e| {
+                let mut e = e.clone();
+                e[0] = tag;
+                stands(&e)
+            }),
+            3 => stands(&book::bytes(book::Entry::Close(l.day))),
+            _ => false,
+        };
+        let want = if rest.iter().all(|&b| b == 0xff) {
+            seen[0] += 1;
+            Opened::Clean(l)
+        } else if l.day <= s.days && begun(rest[0]) {
+            seen[1] += 1;
+            Opened::Torn(l, l.place)
+        } else {
+            seen[2] += 1;
+            Opened::Refused(9, l.place)
+        };
+        t.same(|| format!("any bytes {area:02x?} of {f:?}"), open(&sheet, &area), want);
+        let mended = mend(&sheet, &area);
+        let want_places: Vec<usize> = if matches!(want, Opened::Torn(..)) {
+            (place..room).rev().filter(|&p| area[p] != 0xff).collect()
+        } else {
+            Vec::new()
+        };
+        t.same(|| format!("mended {area:02x?}"), mended.places[..mended.count].to_vec(), want_places);
+    }
+    println!("any bytes: clean {}, torn {}, damaged {}", seen[0], seen[1], seen[2]);
+    t.same(|| "8,193 bytes".into(), open(&write_sheet(&small(1)), &[0xff; 8_193]), Opened::Refused(8, 0));
+    // Cuts after one and after two stores of 01 FF 01 leave the same area and different loose bytes.
+    let (sheet, mut area) = (write_sheet(&small(1)), [0xff; 8]);
+    area[0] = 1;
+    for done in 1..=2 {
+        let mut b = Book::new(read_sheet(&sheet).unwrap(), 8);
+        b.call(Call::Rain(255), done);
+        t.same(|| "01 FF".into(), open(&sheet, &area), b.open());
+        for call in [Call::Rain(255), Call::Close, Call::Mend] {
+            t.same(|| "01 FF".into(), asked(&sheet, &area, call), b.answer(call));
+        }
+    }
+    t.same(|| "no bytes".into(), close(&write_sheet(&small(1)), &[]).number, 14);
+    t.report("any bytes, literal opening")
+}
+
+fn g_days(round: u32) -> u32 {
+    if round % 4 == 0 { 365 } else { 12 }
+}
+
+fn main() {
+    let seed = std::env::args().nth(1).map_or(20_261_115, |s| s.parse().unwrap());
+    let percent = std::env::args().nth(2).map_or(100, |s| s.parse().unwrap());
+    println!("seed {seed}, {percent} percent");
+    let mut g = Dice(seed);
+    let parts = [daggers(), sheet_bytes(&mut g, percent), long_seasons(&mut g, percent),
+        brute(&mut g, percent), histories(&mut g, percent), any_bytes(&mut g, percent)];
+    let (compared, wrong) = parts.iter().fold((0, 0), |a, p| (a.0 + p.0, a.1 + p.1));
+    println!("in all: {compared} compared, {wrong} mismatches");
+    std::process::exit((wrong > 0) as i32);
+}

@@ -1,0 +1,186 @@
+//! Random sheets and journals, from one seed.
+use crate::plain::book;
+use crate::plain::*;
+
+/// Numbers that look random, the same for the same seed.
+pub struct Dice(pub u64);
+
+impl Dice {
+    pub fn next(&mut self) -> u64 {
+        self.0 = self.0.wrapping_add(0x9e3779b97f4a7c15);
+        let mut z = self.0;
+        z = (z ^ z >> 30).wrapping_mul(0xbf58476d1ce4e5b9);
+        z = (z ^ z >> 27).wrapping_mul(0x94d049bb133111eb);
+        z ^ z >> 31
+    }
+    /// lo..=hi
+    pub fn of(&mut self, lo: u32, hi: u32) -> u32 {
+        lo + (self.next() % (hi as u64 - lo as u64 + 1)) as u32
+    }
+    pub fn one_in(&mut self, k: u32) -> bool {
+        self.of(1, k) == 1
+    }
+    pub fn pick<T: Copy>(&mut self, from: &[T]) -> T {
+        from[self.of(0, from.len() as u32 - 1) as usize]
+    }
+}
+
+/// The small sheet of document 01.
+pub fn small(turns: u32) -> [u32; 40] {
+    let mut f = [0; 40];
+    f[..10].copy_from_slice(&[1, 9, 1, 1, 1, 1, 40, 100, 60, 500]);
+    f[33..].copy_from_slice(&[100, 20, 20, 50, 75, 0, turns]);
+    f
+}
+
+/// Fields with some changed, counted from 1.
+pub fn with(mut f: [u32; 40], changes: &[(usize, u32)]) -> [u32; 40] {
+    for &(field, v) in changes {
+        f[field - 1] = v;
+    }
+    f
+}
+
+/// Forty fields of an accepted sheet, of at most so many days.
+pub fn fields(g: &mut Dice, days: u32) -> [u32; 40] {
+    let mut f = [0; 40];
+    f[0] = g.of(1, 12);
+    f[1] = g.of(1, MONTHS[f[0] as usize - 1]);
+    loop {
+        for i in 2..6 {
+            f[i] = g.of(1, 200.min(days - 3));
+        }
+        if f[2..6].iter().sum::<u32>() <= days {
+            break;
+        }
+    }
+    for i in 6..9 {
+        f[i] = g.of(10, 200);
+    }
+    let (eto, rain) = (g.pick(&[200, 700, 1_500]), g.pick(&[0, 3_000, 25_100, 60_000]));
+    for i in 9..21 {
+        f[i] = g.of(0, eto);
+    }
+    for i in 21..33 {
+        f[i] = g.of(0, rain);
+    }
+    f[33] = g.pick(&[1, 20, 140, 400]);
+    f[35] = g.of(10, 300);
+    f[34] = g.of(10, f[35]);
+    f[36] = g.of(5, 80);
+    f[37] = g.of(1, 100);
+    f[39] = g.pick(&[127, 0, 1, 85]).max(g.of(0, 127));
+    let day1 = f[33] * (f[34] + (f[35] - f[34]) / (f[2] + f[3]));
+    f[38] = if g.one_in(3) { day1 } else { g.of(0, day1) };
+    f
+}
+
+/// Fields at the edge of a refusal, or just past it.
+pub fn spoilt_fields(g: &mut Dice, days: u32) -> [u32; 40] {
+    let mut f = fields(g, days);
+    match g.of(0, 9) {
+        0 | 1 => f[g.of(0, 39) as usize] = g.pick(&[0, 1, 5, 28, 29, 30, 31, 127, 128, 201, 16_383, 16_384, 2_097_151, 2_097_152]),
+        2 => (f[34], f[35]) = (f[35], f[34]),
+        3 => f[38] += g.of(0, 3),
+        4 => f[2 + g.of(0, 3) as usize] = g.of(150, 200),
+        _ => {}
+    }
+    f
+}
+
+/// Some bytes of a sheet cut off, changed, put in or added.
+pub fn spoil_sheet(g: &mut Dice, sheet: &mut Vec<u8>) {
+    for _ in 0..g.pick(&[0, 0, 1, 2]) {
+        let at = g.of(0, sheet.len() as u32 - 1) as usize;
+        match g.of(0, 4) {
+            0 => sheet.truncate(at + 1),
+            1 => sheet[at] = g.pick(&[0, 0x80, 0xff, 1, 0x7f]),
+            2 => sheet[at] ^= 0x80,
+            3 => sheet.insert(at, g.pick(&[0, 1, 0x80])),
+            _ => sheet.push(g.next() as u8),
+        }
+    }
+}
+
+/// An amount, often near where a number takes a byte more, or where an entry is refused.
+pub fn amount(g: &mut Dice) -> u32 {
+    match g.of(0, 11) {
+        0 => g.pick(&[0, 120_001, u32::MAX, 1 << 21, 119_999]),
+        1 | 2 => 120_000,
+        3 => g.pick(&[127, 128, 255, 383, 16_383, 16_384, 16_511, 32_767, 1]),
+        4 => 127 + 128 * g.of(0, 900),
+        5 => g.of(1, 120_000),
+        6 => g.of(120, 20_000),
+        _ => g.of(1, 400),
+    }
+}
+
+/// A clean journal made with the calls themselves.
+pub fn journal(g: &mut Dice, s: &Season, sheet: &[u8], length: usize) -> (Vec<u8>, Ledger) {
+    let mut area = vec![0xff; length];
+    let mut at = 0;
+    let mut put = |area: &mut Vec<u8>, e| {
+        let bytes = book::bytes(e);
+        area[at..at + bytes.len()].copy_from_slice(&bytes);
+        at += bytes.len();
+    };
+    let closed = if g.one_in(2) { 0 } else if g.one_in(6) { s.days } else { g.of(0, s.days) };
+    for day in 1..=closed {
+        if g.one_in(4) {
+            put(&mut area, book::Entry::Rain(g.pick(&[1, 40, 900, 5_000])));
+        }
+        put(&mut area, book::Entry::Close(day));
+    }
+    if closed < s.days && g.one_in(2) {
+        put(&mut area, book::Entry::Irrigation(g.pick(&[1, 40, 900, 5_000])));
+        put(&mut area, book::Entry::Rain(g.pick(&[1, 40, 900, 5_000])));
+    }
+    match open(sheet, &area) {
+        Opened::Clean(l) => (area, l),
+        other => panic!("{other:?}"),
+    }
+}
+
+/// What may stand behind a journal's last entry, on its open day: a whole entry, its first bytes, or anything.
+pub fn tail(g: &mut Dice, day: u32) -> Vec<u8> {
+    let mut tail = Vec::new();
+    let edge = g.pick(&[0, 0, 1, 2, 127, 128, 129, 254, 255, 256, 16_383, 16_384, 16_385, 16_511, 16_512, 32_766, 32_767, 32_768]);
+    if g.one_in(2) {
+        // heavy rain, to just below the day's limit
+        for v in [120_000, 120_000 - edge] {
+            tail.extend(book::bytes(book::Entry::Rain(v)));
+        }
+    } else if g.one_in(8) {
+        tail.extend(book::bytes(book::Entry::Irrigation(g.pick(&[0, 120_000, 120_001, 1 << 20]))));
+    }
+    match g.of(0, 7) {
+        0 => tail.extend(book::bytes(book::Entry::Close(day))),
+        1 => tail.extend(book::bytes(book::Entry::Close(day + g.of(0, 1)))),
+        2 => tail.extend([g.of(0, 4) as u8, g.next() as u8, g.next() as u8]),
+        3 => tail.extend([g.of(1, 3) as u8, g.next() as u8 | 0x80, g.next() as u8 | 0x80, g.of(0, 9) as u8]),
+        4 => tail.extend([g.of(1, 3) as u8, 0xff, g.pick(&[0xff, 1, 0x80])]),
+        5 | 6 => {
+            let v = (edge + g.of(0, 2)).saturating_sub(1);
+            tail.extend(book::bytes(if g.one_in(2) { book::Entry::Rain(v) } else { book::Entry::Irrigation(v) }));
+        }
+        _ => {}
+    }
+    tail.truncate(tail.len().saturating_sub(g.pick(&[0, 1, 1, 2, 3])));
+    tail
+}
+
+/// A journal with such a tail, cut to about its length; one in twenty has a byte changed.
+pub fn any_journal(g: &mut Dice, s: &Season, sheet: &[u8], length: usize) -> Vec<u8> {
+    let (mut area, l) = journal(g, s, sheet, length);
+    let tail = tail(g, l.day);
+    let room = l.place + (tail.len() + g.of(0, 4) as usize).saturating_sub(g.of(0, 1) as usize);
+    area.truncate(room);
+    for (place, byte) in area[l.place..].iter_mut().zip(tail) {
+        *place = byte;
+    }
+    if g.one_in(20) && room > 0 {
+        let at = g.of(0, room as u32 - 1) as usize;
+        area[at] = g.next() as u8;
+    }
+    area
+}
