@@ -158,7 +158,7 @@ fn ramp_of(before: u32, after: u32, days: u32, day: u32) -> u32
     sum as u32
 }
 
-fn kc_of(s: Season, day: u32) -> Kc
+pub fn kc_of(s: Season, day: u32) -> Kc
     requires { ⌜ Valid s ⌝ }
     requires { ⌜ DayOf s day ⌝ }
     ensures { λ r. ⌜ r ≡ kcOf s day ⌝ }
@@ -234,7 +234,7 @@ pub fn ready_water(s: Season, day: u32) -> u32
     s.fraction * total_water(s, day) / 100
 }
 
-fn effective_rain(q: u32) -> u32
+pub fn effective_rain(q: u32) -> u32
     requires { ⌜ q ≤ 60000 ⌝ }
     ensures { λ r. ⌜ r ≡ effectiveRain q ⌝ }
 {

@@ -1,0 +1,94 @@
+// Whether an answer of the product is the model's.
+use crate::model;
+use crate::model::EntryBytes;
+use crate::model::Totals;
+use crate::stains;
+use journal::Ledger;
+use journal::Mended;
+use journal::Opening;
+use journal::Recorded;
+use journal::Stores;
+use verdict::Verdict;
+
+fn same_stores(s: Stores, t: Totals, w: EntryBytes) -> bool {
+    let a = s.bytes;
+    let b = w.bytes;
+    if s.start as u64 != t.place {
+        return false;
+    }
+    if s.count != w.count {
+        return false;
+    }
+    check::same(&a, &b)
+}
+
+fn same_refusal(number: u32, value: usize, expected: u64, t: Totals) -> bool {
+    if number as u64 != expected {
+        return false;
+    }
+    if expected == 10 {
+        return value as u64 == t.place;
+    }
+    value == 0
+}
+
+// The call's answer is the model's: stores where `expected` is 0, else that refusal, with no stores.
+pub fn same_record(r: Recorded, t: Totals, expected: u64, w: EntryBytes) -> bool {
+    let v = r.verdict;
+    let s = r.stores;
+    match v {
+        Verdict::Accepted => expected == 0 && same_stores(s, t, w),
+        Verdict::Refused(number, value) => s.count == 0 && same_refusal(number, value, expected, t),
+    }
+}
+
+fn same_ledger(l: Ledger, t: Totals) -> bool {
+    l.day as u64 == t.day
+        && l.depletion as u64 == t.depletion
+        && l.waitingrain as u64 == t.waitingrain
+        && l.waitingirrigation as u64 == t.waitingirrigation
+        && l.rain as u64 == t.rain
+        && l.irrigation as u64 == t.irrigation
+        && l.used as u64 == t.used
+        && l.percolation as u64 == t.percolation
+        && l.place as u64 == t.place
+}
+
+// Clean when no byte is loose, else torn at the ledger's place.
+pub fn same_opening(o: Opening, t: Totals, loose: usize) -> bool {
+    match o {
+        Opening::Clean(l) => loose == 0 && same_ledger(l, t),
+        Opening::Torn(l, place) => loose != 0 && place as u64 == t.place && same_ledger(l, t),
+        Opening::Refused(_, _) => false,
+    }
+}
+
+fn get_place(places: &[usize], at: usize) -> u64 {
+    if at < places.len() {
+        places[at] as u64
+    } else {
+        0
+    }
+}
+
+// The mend's places are those of the loose bytes that are not FF, highest first.
+fn same_places(places: &[usize], count: usize, bytes: &[u8], loose: usize, from: u64) -> bool {
+    let mut i: usize = 0;
+    while i < count {
+        let at = stains::stain(bytes, loose, i);
+        if get_place(places, i) != model::plus(from, at as u64) {
+            return false;
+        }
+        i += 1;
+    }
+    stains::stain(bytes, loose, count) == 4
+}
+
+pub fn same_mend(m: Mended, bytes: [u8; 4], loose: usize, from: u64) -> bool {
+    let v = m.verdict;
+    let places = m.places;
+    match v {
+        Verdict::Accepted => same_places(&places, m.count, &bytes, loose, from),
+        Verdict::Refused(_, _) => false,
+    }
+}

@@ -1,0 +1,135 @@
+// Days closed one after another, from their lines: a line that starts with '+' is a day.
+use crate::rules;
+use crate::sheets;
+use crate::text::get;
+use crate::text::get_byte;
+use crate::text::put;
+use journal::Ledger;
+use journal::Opening;
+use journal::Stores;
+
+// A sum, which stays far below the limit.
+fn plus(a: u32, b: u32) -> u32 {
+    if a < 1000000000 {
+        if b < 1000000000 {
+            return a + b;
+        }
+    }
+    a
+}
+
+// Adds to a number of a balance.
+fn add(balance: &mut [u32], at: usize, n: u32) {
+    let sum = plus(get(balance, at), n);
+    put(balance, at, sum);
+}
+
+// Closes a day by the rule alone, with a need, rain and irrigation of its own, total and ready water the sheet's.
+// A balance is: days closed, depletion, used, percolated, rain, irrigation.
+pub fn close_day(sheet: &[u8], balance: &mut [u32], need: u32, rain: u32, irrigation: u32) {
+    add(balance, 0, 1);
+    let t = sheets::day_numbers(sheet, get(balance, 0));
+    let done = rules::close(
+        get(balance, 1),
+        plus(rain, irrigation),
+        need,
+        t.total,
+        t.ready,
+    );
+    put(balance, 1, done.depletion);
+    add_totals(balance, done.used, done.percolated, rain, irrigation);
+}
+
+fn add_totals(balance: &mut [u32], used: u32, percolated: u32, rain: u32, irrigation: u32) {
+    add(balance, 2, used);
+    add(balance, 3, percolated);
+    add(balance, 4, rain);
+    add(balance, 5, irrigation);
+}
+
+// Does store i of so many.
+fn store_one(area: &mut [u8], s: Stores, i: usize) {
+    let bytes = s.bytes;
+    if i < s.count {
+        sheets::put_byte(area, s.start, i, get_byte(&bytes, i));
+    }
+}
+
+// Does a call's stores, in their order.
+fn store(area: &mut [u8], s: Stores) {
+    let mut i: usize = 0;
+    while i < 4 {
+        store_one(area, s, i);
+        i += 1;
+    }
+}
+
+fn enter_rain(sheet: &[u8], area: &mut [u8], amount: u32) {
+    if amount == 0 {
+        return;
+    }
+    let r = controller::rain(sheet, area, amount);
+    store(area, r.stores);
+}
+
+fn enter_irrigation(sheet: &[u8], area: &mut [u8], amount: u32) {
+    if amount == 0 {
+        return;
+    }
+    let r = controller::irrigation(sheet, area, amount);
+    store(area, r.stores);
+}
+
+fn enter_close(sheet: &[u8], area: &mut [u8]) {
+    let r = controller::close(sheet, area);
+    store(area, r.stores);
+}
+
+// A day by the calls: rain and irrigation where there is any, and the close.
+pub fn record_day(sheet: &[u8], area: &mut [u8], rain: u32, irrigation: u32) {
+    enter_rain(sheet, area, rain);
+    enter_irrigation(sheet, area, irrigation);
+    enter_close(sheet, area);
+}
+
+fn ledger_number(l: Ledger, which: u32) -> u64 {
+    match which {
+        1 => l.day as u64,
+        2 => l.depletion as u64,
+        3 => l.waitingrain as u64,
+        4 => l.waitingirrigation as u64,
+        5 => l.rain as u64,
+        6 => l.irrigation as u64,
+        7 => l.used as u64,
+        8 => l.percolation as u64,
+        _ => l.place as u64,
+    }
+}
+
+// A number of what opening answers: 1 open day, 2 depletion, 3 and 4 waiting rain and irrigation, 5 and 6 season rain and irrigation, 7 use,
+// 8 percolation, 9 the place. 0 where the journal is not clean.
+pub fn opened(sheet: &[u8], area: &[u8], which: u32) -> u64 {
+    match controller::open(sheet, area) {
+        Opening::Clean(l) => ledger_number(l, which),
+        Opening::Torn(_, _) => 0,
+        Opening::Refused(_, _) => 0,
+    }
+}
+
+// Every byte FF.
+pub fn blank(area: &mut [u8]) {
+    let mut i: usize = 0;
+    while i < area.len() {
+        area[i] = 255;
+        i += 1;
+    }
+}
+
+// Every number 0.
+pub fn clear(balance: &mut [u32]) {
+    let mut i: usize = 0;
+    while i < balance.len() {
+        balance[i] = 0;
+        i += 1;
+    }
+}

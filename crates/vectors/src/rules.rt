@@ -1,0 +1,263 @@
+// What the product answers for a line of numbers. Its first three are the printed figure, the tolerance and the reason; inputs follow.
+// Where a rule asks about a season, two numbers follow (a day, or a row and a column) and then places of the sheet with their values.
+use crate::ledger;
+use crate::sheets;
+use crate::text::get;
+use crate::text::get_byte;
+use crate::text::put;
+use season::DayClose;
+use season::Net;
+
+// Effective rain of a month, by its rain.
+pub const RAIN: u32 = 1;
+
+// Gross depth, by net depth and efficiency.
+pub const GROSS: u32 = 2;
+
+// Net depth, by need and rain.
+pub const NET: u32 = 3;
+
+// Crop use, by depletion, need, total and ready water.
+pub const USE: u32 = 4;
+
+// What a sheet answers: 0, or the refusal's number × 1000 and the number returned with it.
+pub const REFUSAL: u32 = 5;
+
+// n.
+pub const LENGTH: u32 = 6;
+
+// Kc on a day, in thousandths of a hundredth.
+pub const KC: u32 = 7;
+
+// C on a day, rounded to a unit.
+pub const NEED: u32 = 8;
+
+// T on a day.
+pub const TOTAL: u32 = 9;
+
+// R on a day.
+pub const READY: u32 = 10;
+
+// The date of a day: month × 100 and day.
+pub const DATE: u32 = 11;
+
+// The days before the first that no choice holds, up to a limit.
+pub const HELD: u32 = 12;
+
+// A number of the decade table, by row and column.
+pub const CELL: u32 = 13;
+
+// The sum of a column of the decade table.
+pub const SUM: u32 = 14;
+
+// The rows of the decade table.
+pub const ROWS: u32 = 15;
+
+// The mean Kc of the days from one to another.
+pub const MEAN_KC: u32 = 16;
+
+// A depth as a part of T on a day, in hundredths of a percent.
+pub const PERCENT: u32 = 17;
+
+// A number of the plan on a blank journal.
+pub const PLAN: u32 = 18;
+
+// The plan's depth on a day.
+pub const DEPTH: u32 = 19;
+
+// A byte of the sheet, or its length.
+pub const SHEET: u32 = 20;
+
+// A number of the days closed by the rule.
+pub const BALANCE: u32 = 21;
+
+// A byte of the journal that the calls wrote, or a number of its opening.
+pub const JOURNAL: u32 = 22;
+
+// Effective rain.
+fn rain(q: u32) -> u64 {
+    if q <= 60000 {
+        season::effective_rain(q) as u64
+    } else {
+        0
+    }
+}
+
+fn gross(net: u32, efficiency: u32) -> u64 {
+    if efficiency < 1 {
+        return 0;
+    }
+    if 100 < efficiency {
+        return 0;
+    }
+    if 40000000 < net {
+        return 0;
+    }
+    season::gross_of(efficiency, Net(net)).points() as u64
+}
+
+// Closing a day, or nothing used where the numbers are of no season.
+pub fn close(depletion: u32, water: u32, need: u32, total: u32, ready: u32) -> DayClose {
+    if depletion <= total {
+        if ready < total {
+            if total <= 120000 {
+                if water <= 240000 {
+                    if need <= 3000 {
+                        return season::close_day(depletion, water, need, total, ready);
+                    }
+                }
+            }
+        }
+    }
+    DayClose {
+        used: 0,
+        percolated: 0,
+        depletion,
+    }
+}
+
+// n to the nearest whole unit, a half going up. A unit is 1 or an even number.
+fn rounded(n: u32, unit: u32) -> u64 {
+    if unit == 0 {
+        return n as u64;
+    }
+    let half_up = n as u64 + unit as u64 / 2;
+    let rest = half_up % unit as u64;
+    if rest <= half_up { half_up - rest } else { 0 }
+}
+
+// n, but no more than a limit; 0 is no limit.
+fn at_most(n: u64, limit: u32) -> u64 {
+    if limit == 0 {
+        return n;
+    }
+    if limit as u64 <= n { limit as u64 } else { n }
+}
+
+// A part in hundredths of a percent of a total.
+fn percent(part: u32, total: u32) -> u64 {
+    if total == 0 {
+        return 0;
+    }
+    part as u64 * 10000 / total as u64
+}
+
+// Sets places of a sheet, by the pairs behind a line's first five numbers: a field, counted from 1, and its value.
+pub fn set_fields(fields: &mut [u32], numbers: &[u32]) {
+    let mut pair: usize = 0;
+    while pair < 45 {
+        set_field(
+            fields,
+            get(numbers, 5 + 2 * pair),
+            get(numbers, 6 + 2 * pair),
+        );
+        pair += 1;
+    }
+}
+
+fn set_field(fields: &mut [u32], field: u32, value: u32) {
+    if 0 < field {
+        put(fields, (field - 1) as usize, value);
+    }
+}
+
+// A byte of the sheet; or its length, where `whole` is 1.
+fn sheet_byte(sheet: &[u8], at: u32, whole: u32) -> u64 {
+    if whole == 1 {
+        return sheet.len() as u64;
+    }
+    get_byte(sheet, at as usize) as u64
+}
+
+fn signed(k: usize) -> isize {
+    if k < 1000000 { k as isize } else { 0 }
+}
+
+// A figure of a season, from its sheet.
+fn of_sheet(rule: u32, sheet: &[u8], a: u32, b: u32) -> u64 {
+    match rule {
+        REFUSAL => sheets::refusal(sheet),
+        LENGTH => sheets::length(sheet) as u64,
+        KC => sheets::day_numbers(sheet, a).kc,
+        NEED => rounded(sheets::day_numbers(sheet, a).need, b),
+        TOTAL => sheets::day_numbers(sheet, a).total as u64,
+        READY => sheets::day_numbers(sheet, a).ready as u64,
+        DATE => sheets::day_numbers(sheet, a).date,
+        HELD => at_most(sheets::days_held(sheet), b),
+        CELL => sheets::cell(sheet, a, b) as u64,
+        SUM => sheets::column_sum(sheet, a),
+        ROWS => sheets::rows(sheet) as u64,
+        MEAN_KC => sheets::mean_kc(sheet, a, b),
+        PERCENT => percent(b, sheets::day_numbers(sheet, a).total),
+        PLAN => sheets::plan_number(sheet, a),
+        DEPTH => sheets::depth(sheet, a),
+        SHEET => sheet_byte(sheet, a, b),
+        _ => 0,
+    }
+}
+
+// Writes the sheet that stands, with a line's own fields; how many bytes.
+fn write_own(fields: [u32; 40], numbers: &[u32], bytes: &mut [u8]) -> usize {
+    let mut own = fields;
+    set_fields(&mut own, numbers);
+    sheets::write_sheet(&own, bytes)
+}
+
+// The product's answer, by the line's numbers and the sheet that stands.
+pub fn answer(rule: u32, numbers: &[u32], fields: [u32; 40]) -> u64 {
+    let a = get(numbers, 3);
+    let b = get(numbers, 4);
+    match rule {
+        RAIN => rain(a),
+        GROSS => gross(a, b),
+        NET => season::less(a, b) as u64,
+        USE => close(a, 0, b, get(numbers, 5), get(numbers, 6)).used as u64,
+        _ => {
+            let mut bytes = [0u8; 121];
+            let k = write_own(fields, numbers, &mut bytes);
+            let n = io::count(signed(k), &bytes);
+            of_sheet(rule, &bytes[..n], a, b)
+        }
+    }
+}
+
+// The same of the days closed so far: a number of the balance; or a byte of the journal, or a number of its opening.
+pub fn answer_after_days(
+    rule: u32,
+    numbers: &[u32],
+    fields: [u32; 40],
+    balance: &[u32],
+    area: &[u8],
+) -> u64 {
+    let which = get(numbers, 3);
+    if rule == BALANCE {
+        return get(balance, which as usize) as u64;
+    }
+    if which == 0 {
+        return get_byte(area, get(numbers, 4) as usize) as u64;
+    }
+    let mut bytes = [0u8; 121];
+    let k = sheets::write_sheet(&fields, &mut bytes);
+    let n = io::count(signed(k), &bytes);
+    ledger::opened(&bytes[..n], area, which)
+}
+
+// A day's line: need, rain and irrigation for the balance; rain and irrigation for the journal.
+pub fn run_day(
+    rule: u32,
+    numbers: &[u32],
+    fields: [u32; 40],
+    balance: &mut [u32],
+    area: &mut [u8],
+) {
+    let mut bytes = [0u8; 121];
+    let k = sheets::write_sheet(&fields, &mut bytes);
+    let n = io::count(signed(k), &bytes);
+    let a = get(numbers, 0);
+    let b = get(numbers, 1);
+    if rule == BALANCE {
+        ledger::close_day(&bytes[..n], balance, a, b, get(numbers, 2));
+    } else {
+        ledger::record_day(&bytes[..n], area, a, b);
+    }
+}

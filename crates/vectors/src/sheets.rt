@@ -1,0 +1,279 @@
+// A sheet from its forty numbers, and what the product says of a day of its season.
+use crate::text::get;
+use decades::Tabled;
+use planner::Planned;
+use season::Season;
+use verdict::Verdict;
+ghost use Rattle.season.specs.Day.{Sown};
+
+// A day's numbers: Kc in thousandths of a hundredth, the date as month × 100 + day, C, T and R.
+pub struct DayNumbers {
+    pub kc: u64,
+    pub date: u64,
+    pub need: u32,
+    pub total: u32,
+    pub ready: u32,
+}
+
+// Writes a byte at a place behind another, if there is room.
+pub fn put_byte(bytes: &mut [u8], from: usize, behind: usize, b: u8) {
+    if from < bytes.len() {
+        if behind < bytes.len() - from {
+            bytes[from + behind] = b;
+        }
+    }
+}
+
+fn later(at: usize, count: u32) -> usize {
+    if at < 1000000 {
+        at + count as usize
+    } else {
+        at
+    }
+}
+
+// Writes a number in groups of seven bits, with zeros behind; the place after the groups.
+fn put_groups(bytes: &mut [u8], from: usize, n: u32) -> usize {
+    let groups = leb128::split(n);
+    let split = groups.bytes;
+    put_byte(bytes, from, 0, split[0]);
+    put_byte(bytes, from, 1, split[1]);
+    put_byte(bytes, from, 2, split[2]);
+    put_byte(bytes, from, 3, split[3]);
+    put_byte(bytes, from, 4, split[4]);
+    later(from, groups.count)
+}
+
+// Writes a sheet; how many bytes it has.
+pub fn write_sheet(fields: &[u32], bytes: &mut [u8]) -> usize {
+    let mut at: usize = 0;
+    let mut i: usize = 0;
+    while i < fields.len() {
+        at = put_groups(bytes, at, fields[i]);
+        i += 1;
+    }
+    at
+}
+
+// Refusal number × 1000 and the number returned with it, or 0 for an accepted sheet.
+pub fn refusal(sheet: &[u8]) -> u64 {
+    let read = sheet::read(sheet);
+    let verdict = read.verdict;
+    match verdict {
+        Verdict::Accepted => 0,
+        Verdict::Refused(number, value) => refusal_code(number, value),
+    }
+}
+
+pub fn refusal_code(number: u32, value: usize) -> u64 {
+    if value < 1000 {
+        number as u64 * 1000 + value as u64
+    } else {
+        0
+    }
+}
+
+// n, or 0 where the sheet is refused.
+pub fn length(sheet: &[u8]) -> u32 {
+    let read = sheet::read(sheet);
+    let season = read.season;
+    let verdict = read.verdict;
+    match verdict {
+        Verdict::Accepted => season::season_days(season),
+        Verdict::Refused(_, _) => 0,
+    }
+}
+
+fn thousandths(top: u32, bottom: u32) -> u64 {
+    if bottom == 0 {
+        return 0;
+    }
+    top as u64 * 1000 / bottom as u64
+}
+
+// The numbers of a day of the season, or all 0 where it has no such day.
+pub fn season_day(s: Season, day: u32) -> DayNumbers
+    requires { ⌜ Sown s ⌝ }
+{
+    if day < 1 {
+        return nothing();
+    }
+    if season::season_days(s) < day {
+        return nothing();
+    }
+    let t = season::day_of(s, day);
+    let kc = season::kc_of(s, day);
+    DayNumbers {
+        kc: thousandths(kc.top, kc.bottom),
+        date: t.month as u64 * 100 + t.day as u64,
+        need: season::crop_need(s, t),
+        total: season::total_water(s, day),
+        ready: season::ready_water(s, day),
+    }
+}
+
+fn nothing() -> DayNumbers {
+    DayNumbers {
+        kc: 0,
+        date: 0,
+        need: 0,
+        total: 0,
+        ready: 0,
+    }
+}
+
+// The same by the sheet's bytes.
+pub fn day_numbers(sheet: &[u8], day: u32) -> DayNumbers {
+    let read = sheet::read(sheet);
+    let season = read.season;
+    let verdict = read.verdict;
+    match verdict {
+        Verdict::Accepted => season_day(season, day),
+        Verdict::Refused(_, _) => nothing(),
+    }
+}
+
+// How many rows the decade table has; its rows go to a lent buffer.
+pub fn row_count(sheet: &[u8], rows: &mut [u32]) -> usize {
+    match controller::table(sheet, rows) {
+        Tabled::Rows(count) => count,
+        Tabled::Refused(_, _) => 0,
+    }
+}
+
+// The number in a row and a column of the table, each from 1.
+pub fn cell(sheet: &[u8], row: u32, column: u32) -> u32 {
+    let mut rows = [0u32; 222];
+    row_count(sheet, &mut rows);
+    get(&rows, place(row, column))
+}
+
+fn place(row: u32, column: u32) -> usize {
+    if row < 1 {
+        return 222;
+    }
+    if column < 1 {
+        return 222;
+    }
+    if 37 < row {
+        return 222;
+    }
+    if 6 < column {
+        return 222;
+    }
+    ((row - 1) * 6 + (column - 1)) as usize
+}
+
+// The sum of a column of rows.
+fn sum_of(rows: &[u32], column: u32) -> u64 {
+    let mut sum: u64 = 0;
+    let mut row: u32 = 1;
+    while row <= 37 {
+        sum = plus(sum, get(rows, place(row, column)));
+        row += 1;
+    }
+    sum
+}
+
+// The sum of a column of the table.
+pub fn column_sum(sheet: &[u8], column: u32) -> u64 {
+    let mut rows = [0u32; 222];
+    row_count(sheet, &mut rows);
+    sum_of(&rows, column)
+}
+
+// Sums here stay far below the limit.
+pub fn plus(sum: u64, n: u32) -> u64 {
+    if sum < 1000000000000 {
+        sum + n as u64
+    } else {
+        sum
+    }
+}
+
+// The days before the first that no choice holds, on a blank journal; 0 where there is none.
+pub fn days_held(sheet: &[u8]) -> u64 {
+    let mut depths = [0u32; 365];
+    match controller::plan(sheet, b"", &mut depths) {
+        Planned::Made(_, _, _) => 0,
+        Planned::Refused(number, day) => before(number, day),
+    }
+}
+
+fn before(number: u32, day: usize) -> u64 {
+    if number != 16 {
+        return 0;
+    }
+    if day < 1 {
+        return 0;
+    }
+    (day - 1) as u64
+}
+
+// How many rows the decade table has.
+pub fn rows(sheet: &[u8]) -> usize {
+    let mut rows = [0u32; 222];
+    row_count(sheet, &mut rows)
+}
+
+// The mean Kc of the days from one to another.
+pub fn mean_kc(sheet: &[u8], from: u32, to: u32) -> u64 {
+    let mut sum: u64 = 0;
+    let mut count: u64 = 0;
+    let mut day = from;
+    while day <= to {
+        sum = added(sum, day_numbers(sheet, day).kc);
+        if 1000 <= count {
+            return 0;
+        }
+        count += 1;
+        if 1000 <= day {
+            return 0;
+        }
+        day += 1;
+    }
+    quotient(sum, count)
+}
+
+fn added(sum: u64, n: u64) -> u64 {
+    if sum < 1000000000000 {
+        if n < 1000000000000 {
+            return sum + n;
+        }
+    }
+    sum
+}
+
+fn quotient(n: u64, count: u64) -> u64 {
+    if count == 0 { 0 } else { n / count }
+}
+
+// Of the plan on a blank journal: 1 the refusal's number × 1000 and its day, 2 the waterings, 3 the net total, 4 the gross total.
+pub fn plan_number(sheet: &[u8], which: u32) -> u64 {
+    let mut depths = [0u32; 365];
+    match controller::plan(sheet, b"", &mut depths) {
+        Planned::Refused(number, day) => if which == 1 {
+            refusal_code(number, day)
+        } else {
+            0
+        },
+        Planned::Made(waterings, net, gross) => match which {
+            2 => waterings as u64,
+            3 => net.0 as u64,
+            4 => gross.points() as u64,
+            _ => 0,
+        },
+    }
+}
+
+// The plan's depth on a season day.
+pub fn depth(sheet: &[u8], day: u32) -> u64 {
+    let mut depths = [0u32; 365];
+    if day < 1 {
+        return 0;
+    }
+    match controller::plan(sheet, b"", &mut depths) {
+        Planned::Refused(_, _) => 0,
+        Planned::Made(_, _, _) => get(&depths, (day - 1) as usize) as u64,
+    }
+}
