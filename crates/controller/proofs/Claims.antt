@@ -1,5 +1,5 @@
 -- The proofs of `specs/Claims.antt`, in its order.
-use mathlib.Core.Path.{_≡_, refl}
+use mathlib.Core.Path.{_≡_, refl, subst⁻¹}
 use mathlib.Core.List.{List, map}
 use Prim.Native.Nat.{ℕ}
 use native.Mathlib.Omega.{arith}
@@ -24,6 +24,7 @@ use Rattle.journal.specs.Entries.{tagOf, sourceTag, numberOf, start, enter, ref
 use Rattle.journal.specs.Entries as journal
 use Rattle.journal.specs.Opening.{value, least, starts, entryOf, only, entryAt, replay, replayed, blank, trim, tornAt, behind, opening}
 use Rattle.journal.specs.Calls.{noStores, judged, recorded, stains, notMended, mendedOn, mended, wipesIn, mendedNumbers}
+use Rattle.journal.specs.Words.{Opens}
 use Rattle.journal.specs.Claims.{OpeningOccurs, RecordedOccurs, MendedOccurs}
 use Rattle.journal.proofs.Claims as journals
 use Rattle.planner.specs.declared.Planned.{Planned}
@@ -40,7 +41,7 @@ use Rattle.controller.specs.Refusals.{openVerdict, planVerdict, tableVer
 use Rattle.controller.specs.Cases.{cases}
 use Rattle.controller.specs.Claims.{Claims}
 use Rattle.controller.proofs.Sheets.{on-sheet}
-use Rattle.controller.proofs.Demands.{demand-3}
+use Rattle.controller.proofs.Demands.{opens, demand-3}
 use Rattle.controller.proofs.Refusing.{sheet-verdict, open-verdict, entry-verdict, mend-verdict, plan-verdict, table-verdict, entry-refused, mend-refused, plan-refused-keeps}
 
 -- The calls' two ways: a refused sheet, and an accepted season.
@@ -119,6 +120,8 @@ claims = record {
   table-unaltered = table-unaltered;
   sheet-as-written = sheets.claims .accepted-as-written;
   written-as-sheet = sheets.claims .written-accepted;
+  entries = journals.claims;
+  opening-says = λ sheet area v h. subst⁻¹ (Opens (sheetOf sheet .season) area) (opens sheet v area) (journals.claims .opening-says (sheetOf sheet .season) area h);
   opening-occurs = opening-occurs;
   recorded-occurs = recorded-occurs;
   mended-occurs = mended-occurs;

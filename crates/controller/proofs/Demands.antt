@@ -84,7 +84,7 @@ module _ (sheet : List ℕ) (v : sheetOf sheet .verdict ≡ verdict.Accepted) wh
     mending = λ area. sheet-accepted notMended (λ t. mended t area) sheet (sheetOf sheet) refl v i;
   }
 
-  opens : (area : List ℕ) → sheetOpened sheet area ≡ opening s area
+  pub opens : (area : List ℕ) → sheetOpened sheet area ≡ opening s area
   opens area = sheet-accepted found.Refused (λ t. opening t area) sheet (sheetOf sheet) refl v
 
   -- On a clean journal with an open day the plan is the planner's, from the ledger.

@@ -10,8 +10,10 @@ use Rattle.sheet.specs.Numbers.{numbersRead, written}
 use Rattle.sheet.specs.Fields.{seasonOf}
 use Rattle.sheet.specs.Sheets.{fieldsVerdict, sheetOf}
 use Rattle.journal.specs.declared.Entry.{Entry}
+use Rattle.journal.specs.Words.{Opens}
 use Rattle.journal.specs.Calls.{noStores, judged, notMended}
 use Rattle.journal.specs.Book.{Step}
+use Rattle.journal.specs.Claims as journal
 use Rattle.journal.specs.Claims.{OpeningOccurs, RecordedOccurs, MendedOccurs}
 use Rattle.planner.specs.declared.Planned.the-variants as planned
 use Rattle.decades.specs.declared.Tabled.the-variants as table
@@ -38,10 +40,14 @@ pub record Claims : Type 0 where
   pub plan-unaltered : (sheet area out : List ℕ) (number value : ℕ) → sheetPlanned sheet area out .0 ≡ planned.Refused number value
       → sheetPlanned sheet area out .1 ≡ out
   pub table-unaltered : (sheet out : List ℕ) (number value : ℕ) → sheetTabled sheet out .0 ≡ table.Refused number value → sheetTabled sheet out .1 ≡ out
-  -- Demand 2: an accepted sheet and its forty fields match one to one. (Entries and their bytes: the journal's `Claims`.)
+  -- Demand 2: an accepted sheet and its forty fields match one to one,
   pub sheet-as-written : (sheet : List ℕ) → Bytes sheet → sheetOf sheet .verdict ≡ Accepted → sheet ≡ written (numbersRead sheet .fields)
   pub written-as-sheet : (vs : List ℕ) → length vs ≡ 40 → fieldsVerdict vs ≡ Accepted
       → sheetOf (written vs) ≡ record { season = seasonOf vs; verdict = Accepted }
+  -- and so do entries and their bytes: `bytes-read`, `read-stands` and `bytes-one-to-one` of the journal's claims.
+  pub entries : journal.Claims
+  -- Opening finds clean, torn and damaged in document 01's words, behind the longest run of whole entries that would each have been accepted.
+  pub opening-says : (sheet area : List ℕ) → sheetOf sheet .verdict ≡ Accepted → length area ≤ 8192 → Opens (sheetOf sheet .season) area (sheetOpened sheet area)
   -- The calls' answers are among those on which their numberings are one to one (the journal's `Claims`; a plan's and a table's are, on all answers).
   pub opening-occurs : (sheet area : List ℕ) → OpeningOccurs (sheetOpened sheet area)
   pub recorded-occurs : (sheet area : List ℕ) (e : Entry) → RecordedOccurs (sheetRecorded sheet area e)
