@@ -10,7 +10,8 @@ use native.Mathlib.Numerals.{add-one}
 use native.Mathlib.Omega.{arith}
 use borrow.Author.Tests.{lt-ltb, le-ltb, eq-eqb, ne-eqb}
 use lib.Dec.{eqb, lit<}
-use lib.ListN.{length, take, getD, length-take}
+use lib.ListN.{length, take, drop, getD, length-take, length-drop}
+use lib.Seq.{getD-drop}
 use lib.Pow.{pow-mono, pow-add, shr-lt}
 use lib.Count.{leadingZeros, leading-top}
 use Rattle.leb128.specs.declared.Number.{Number}
@@ -265,6 +266,20 @@ decode-more [] ys h = absurd (omega arith)
 decode-more (a ∷ []) ys h = absurd (omega arith)
 decode-more (a ∷ b ∷ []) ys h = absurd (omega arith)
 decode-more (a ∷ b ∷ c ∷ xs) ys h = refl
+
+-- the first three say all, at the start and at a place
+pub decode-three : (xs : List ℕ) → 2 < length xs → decode (getD xs 0 0 ∷ getD xs 1 0 ∷ getD xs 2 0 ∷ []) ≡ decode xs
+unfolding decode decodeFrom below
+decode-three [] h = absurd (omega arith)
+decode-three (a ∷ []) h = absurd (omega arith)
+decode-three (a ∷ b ∷ []) h = absurd (omega arith)
+decode-three (a ∷ b ∷ c ∷ xs) h = refl
+
+pub decode-three-at : (at : ℕ) (xs : List ℕ) → at + 2 < length xs
+    → decode (getD xs at 0 ∷ getD xs (at + 1) 0 ∷ getD xs (at + 2) 0 ∷ []) ≡ decode (drop at xs)
+decode-three-at at xs h =
+    let z : at + 0 ≡ at = omega arith in
+    rw (getD-drop at xs 0 0, getD-drop at xs 1 0, getD-drop at xs 2 0, z) at (decode-three (drop at xs) (omega (arith, length-drop at xs)))
 
 decode-first : (xs : List ℕ) → decode (take 3 xs) ≡ decode xs
 unfolding decode decodeFrom below

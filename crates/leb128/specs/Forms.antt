@@ -1,5 +1,5 @@
 -- Document 01, 'The season sheet' and refusals 1 and 2: what stands at the start of some bytes. Places are counted from 0.
-use Prim.Native.Nat.{ℕ, _+_, _*_, _-_}
+use Prim.Native.Nat.{ℕ, _+_, _*_, _-_, _%_}
 use mathlib.Core.List.{List, [], _∷_, _++_}
 use mathlib.Core.Bool.{true, false, _&&_}
 use lib.Dec.{ltb, eqb}
@@ -27,6 +27,10 @@ decodeFrom i (b ∷ bs) =
 
 unfoldable pub decode : List ℕ → Number
 decode bytes = decodeFrom 0 bytes
+
+-- The number that the groups of three bytes make, lowest first.
+abbrev pub joinedOf : ℕ → ℕ → ℕ → ℕ
+joinedOf a b c = a % 128 + 128 * (b % 128) + 16384 * (c % 128)
 
 -- The refusal's number, 1 or 2, and the offending byte's place in 2; of a whole number 0, its value and how many bytes it takes.
 abbrev pub numbersOf : Number → List ℕ
