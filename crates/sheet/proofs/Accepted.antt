@@ -17,7 +17,7 @@ use Rattle.verdict.specs.declared.Verdict.{Verdict}
 use Rattle.verdict.specs.declared.Verdict.the-variants.{Accepted, Refused}
 use Rattle.leb128.specs.Claims.{Bytes}
 use Rattle.verdict.proofs.First.{refused-accepted}
-use Rattle.sheet.specs.Numbers.{Run, before, numbers, ended, numbersRead, written}
+use Rattle.sheet.specs.Numbers.{Run, before, numbers, onlyWhole, ended, numbersRead, written}
 use Rattle.sheet.specs.Fields.{seasonOf}
 use Rattle.sheet.specs.Sheets.{fieldsVerdict, sheetOf}
 use Rattle.sheet.proofs.Runs.{numbers-whole, numbers-short, numbers-bad}
@@ -72,6 +72,12 @@ unfolding numbersRead
 whole-numbers b e =
     let w = ended-whole b (numbers 40 0 b) (reads 40 0 b) e in
     record { count = w .0; as-written = w .1 }
+
+-- A buffer that has a sheet's numbers has forty.
+pub buffer-count : (b f : List ℕ) (form : Verdict) → onlyWhole f form ≡ numbersRead b → form ≡ Accepted → length f ≡ 40
+buffer-count b f form e a =
+    let n : numbersRead b ≡ record { fields = f; verdict = Accepted } = sym e ∙ ap (onlyWhole f) a in
+    rw n at (whole-numbers b (rw n) .count)
 
 -- What an accepted sheet is, f being its numbers.
 pub record Is-accepted (b f : List ℕ) : Type 0 where

@@ -12,8 +12,7 @@ use Rattle.leb128.specs.Forms.{decode}
 use Rattle.verdict.specs.declared.Verdict.{Verdict}
 use Rattle.verdict.specs.declared.Verdict.the-variants.{Accepted, Refused}
 use Rattle.verdict.specs.Refusals.{orRefused, firstOf}
-use Rattle.sheet.specs.declared.Numbers.{Numbers}
-use Rattle.sheet.specs.Numbers.{Run, run, stop, before, numbers, none, ended, numbersRead}
+use Rattle.sheet.specs.Numbers.{Run, run, stop, before, numbers, Numbers, none, ended, numbersRead}
 use Rattle.sheet.specs.Sheets.{fieldAtFault, seasonLines, fieldsVerdict, onlyAccepted, judged, sheetOf}
 use Rattle.sheet.specs.Fields.{seasonOf}
 

@@ -5,7 +5,7 @@ use mathlib.Core.List.{List, [], _∷_, _++_}
 use native.Mathlib.Numerals.{add-one}
 use native.Mathlib.Omega.{arith}
 use borrow.Author.Tests.{lt-ltb, le-ltb}
-use lib.ListN.{length, take, drop, set, replicate, length-set, length-drop}
+use lib.ListN.{length, take, drop, set, length-set, length-drop}
 use lib.Seq.{take-all, take-suc-set}
 use Rattle.leb128.specs.declared.Number.the-variants.{Whole, Short, Bad}
 use Rattle.leb128.specs.Forms.{decode}
@@ -52,9 +52,9 @@ pub record SoFar (s fields : List ℕ) (at k : ℕ) : Type 0 where
   pub whole : length fields ≡ 40
   pub rest : numbers 40 0 s ≡ prepend (take k fields) (numbers (40 - k) at s)
 
-pub start : (s : List ℕ) → SoFar s (replicate 40 0) 0 0
+pub start : (s fields : List ℕ) → length fields ≡ 40 → SoFar s fields 0 0
 unfolding prepend
-start s = record { within = omega arith; few = omega arith; whole = refl; rest = refl }
+start s fields l = record { within = omega arith; few = omega arith; whole = l; rest = refl }
 
 pub reach-whole : (at : ℕ) (s : List ℕ) (v n : ℕ) → decode (drop at s) ≡ Whole v n → at ≤ length s → at + n ≤ length s
 reach-whole at s v n e h =

@@ -15,8 +15,7 @@ use Rattle.verdict.specs.Refusals.{orRefused, firstOf}
 use Rattle.verdict.proofs.First.{first-holds, first-fails, refused-accepted, accepted-fails}
 use Rattle.sheet.specs.Fields.{seasonOf}
 use Rattle.sheet.specs.Sheets.{fieldAtFault, seasonLines, fieldsVerdict, refusal, onlyAccepted, judged, sheetOf}
-use Rattle.sheet.specs.Numbers.{numbersRead}
-use Rattle.sheet.specs.declared.Numbers.{Numbers}
+use Rattle.sheet.specs.Numbers.{none, onlyWhole, numbersRead}
 use Rattle.sheet.proofs.Ranges.{season-ranged}
 
 pub fault-refused : (f : List ℕ) → 0 < fieldAtFault f → fieldsVerdict f ≡ Refused 4 (fieldAtFault f)
@@ -57,15 +56,20 @@ accepted-sound f n e =
       };
     }
 
--- What reading a sheet answers, by what its numbers and their judgement are.
-pub read-stopped : (b : List ℕ) (ns : Numbers) (number value : ℕ) → ns ≡ numbersRead b → ns .verdict ≡ Refused number value → sheetOf b ≡ refusal number value
+-- What reading a sheet answers, by what its numbers, in the buffer f, and their judgement are.
+pub read-stopped : (b f : List ℕ) (form : Verdict) (number value : ℕ) → onlyWhole f form ≡ numbersRead b → form ≡ Refused number value
+    → refusal number value ≡ sheetOf b
 unfolding sheetOf
-read-stopped b ns number value e v = rw (← e, v)
+read-stopped b f form number value e v =
+    let n : numbersRead b ≡ none number value = sym e ∙ ap (onlyWhole f) v in
+    rw n
 
-pub read-judged : (b : List ℕ) (ns : Numbers) (v : Verdict) → ns ≡ numbersRead b → ns .verdict ≡ Accepted → v ≡ fieldsVerdict (ns .fields)
-    → sheetOf b ≡ onlyAccepted (seasonOf (ns .fields)) v
+pub read-judged : (b f : List ℕ) (form v : Verdict) → onlyWhole f form ≡ numbersRead b → form ≡ Accepted → v ≡ fieldsVerdict f
+    → onlyAccepted (seasonOf f) v ≡ sheetOf b
 unfolding sheetOf
-read-judged b ns v e a j = rw (← e, a, ← j)
+read-judged b f form v e a j =
+    let n : numbersRead b ≡ record { fields = f; verdict = Accepted } = sym e ∙ ap (onlyWhole f) a in
+    rw (n, j)
 
 -- A refused sheet's numbers are all 0.
 only-refused : (s : Season) (v : Verdict) (number value : ℕ) → onlyAccepted s v .verdict ≡ Refused number value → onlyAccepted s v ≡ refusal number value

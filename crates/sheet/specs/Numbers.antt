@@ -7,8 +7,8 @@ use lib.ListN.{length, drop, replicate}
 use Rattle.leb128.specs.declared.Number.the-variants.{Whole, Short, Bad}
 use Rattle.leb128.specs.Forms.{decode}
 use Rattle.leb128.specs.Groups.{encode}
+use Rattle.verdict.specs.declared.Verdict.{Verdict}
 use Rattle.verdict.specs.declared.Verdict.the-variants.{Accepted, Refused}
-use Rattle.sheet.specs.declared.Numbers.{Numbers}
 
 -- A run of numbers: their values and the place after them, or a refusal.
 pub data Run : Type 0 where
@@ -29,9 +29,19 @@ numbers (suc count) at s =
       | Bad p ↦ stop 2 (at + p)
     ]
 
+-- A sheet's numbers, and what refusals 1 to 3 say of it.
+pub record Numbers : Type 0 where
+  pub fields : List ℕ
+  pub verdict : Verdict
+
 -- Refused by 1, 2 or 3: the numbers are all 0.
 abbrev pub none : ℕ → ℕ → Numbers
 none number value = record { fields = replicate 40 0; verdict = Refused number value }
+
+-- The numbers where the verdict accepts, and else all 0.
+abbrev pub onlyWhole : List ℕ → Verdict → Numbers
+onlyWhole f Accepted = record { fields = f; verdict = Accepted }
+onlyWhole f (Refused number value) = none number value
 
 -- Refusal 3 has the first extra byte's place.
 unfoldable pub ended : List ℕ → Run → Numbers

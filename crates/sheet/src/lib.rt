@@ -3,18 +3,12 @@ use leb128::Number;
 use season::Season;
 use verdict::Verdict;
 ghost use mathlib.Core.Path.{_≡_};
-ghost use Rattle.sheet.specs.Numbers.{numbersRead, none};
-ghost use Rattle.sheet.specs.Fields.{limits, outside, lowestOutside, seasonOf};
-ghost use Rattle.sheet.specs.Sheets.{fieldsVerdict, sheetOf, refusal};
+ghost use lib.Dec.{ltb};
+ghost use lib.ListN.{length};
+ghost use Rattle.sheet.specs.Numbers.{numbersRead, onlyWhole};
+ghost use Rattle.sheet.specs.Fields.{limits, outside, seasonOf};
+ghost use Rattle.sheet.specs.Sheets.{fieldAtFault, fieldsVerdict, sheetOf, refusal, onlyAccepted};
 ghost use Rattle.season.specs.Calendar.{monthDays};
-ghost use lib.ListN.{getD};
-
-// A sheet's numbers, all 0 where one of refusals 1 to 3 applies. The array stands beside the verdict, since an enum that holds one
-// is not covered.
-struct Numbers {
-    fields: [u32; 40],
-    verdict: Verdict,
-}
 
 // A sheet's season, all 0 where the sheet is refused.
 pub struct Sheet {
@@ -74,40 +68,29 @@ const LONGEST_SEASON: u32 = 365;
 
 // ---- refusals 1 to 3
 
-fn no_numbers(number: u32, value: usize) -> Numbers
-    ensures { λ r. ⌜ r ≡ none number value ⌝ }
+// Puts the forty numbers of a sheet into a lent buffer, or gives the first of refusals 1 to 3 that applies, and the buffer is then not
+// read. (A reference does not tell its array's length, so the `requires` here and below say it.)
+fn read_numbers(sheet: &[u8], fields: &mut [u32; 40]) -> Verdict
+    requires { ⌜ length (now fields) ≡ 40 ⌝ }
+    ensures { λ r. ⌜ onlyWhole (now (fields .exit)) r ≡ numbersRead (now (sheet .entry)) ⌝ }
 {
-    Numbers {
-        fields: [0u32; 40],
-        verdict: Verdict::Refused(number, value),
-    }
-}
-
-// The forty numbers of a sheet, or the first of refusals 1 to 3 that applies.
-fn read_numbers(sheet: &[u8]) -> Numbers
-    ensures { λ r. ⌜ r ≡ numbersRead (now (sheet .entry)) ⌝ }
-{
-    let mut fields = [0u32; 40];
     let mut at: usize = 0;
     let mut k: usize = 0;
     while k < 40 {
-        match leb128::read(&sheet[at..]) {
+        match leb128::read_at(sheet, at) {
             Number::Whole(value, length) => {
                 fields[k] = value;
                 at += length;
             }
-            Number::Short => return no_numbers(1, sheet.len()),
-            Number::Bad(place) => return no_numbers(2, at + place),
+            Number::Short => return Verdict::Refused(1, sheet.len()),
+            Number::Bad(place) => return Verdict::Refused(2, at + place),
         }
         k += 1;
     }
     if at < sheet.len() {
-        return no_numbers(3, at);
+        return Verdict::Refused(3, at);
     }
-    Numbers {
-        fields,
-        verdict: Verdict::Accepted,
-    }
+    Verdict::Accepted
 }
 
 // ---- refusals 4 to 7
@@ -139,9 +122,26 @@ fn is_outside(limit: Limit, x: u32) -> bool
     x < limit.0 || limit.1 < x
 }
 
+// Whether a field is outside its limits. Looks at all with no early exit, which is quicker where none is.
+fn any_outside(fields: &[u32; 40]) -> bool
+    requires { ⌜ length (now fields) ≡ 40 ⌝ }
+    ensures { λ r. ⌜ r ≡ ltb 0 (fieldAtFault (now (fields .entry))) ⌝ }
+{
+    let by_field = limits_of(fields[0]);
+    let mut wrong = false;
+    let mut k: usize = 0;
+    while k < 40 {
+        let x = fields[k];
+        wrong = wrong | (x < by_field[k].0) | (by_field[k].1 < x);
+        k += 1;
+    }
+    wrong
+}
+
 // The lowest field outside its limits, counted from 1; 0 where none is.
-fn lowest_outside(fields: [u32; 40]) -> usize
-    ensures { λ r. ⌜ r ≡ lowestOutside 1 (limits (getD fields 0 0)) fields ⌝ }
+fn lowest_outside(fields: &[u32; 40]) -> usize
+    requires { ⌜ length (now fields) ≡ 40 ⌝ }
+    ensures { λ r. ⌜ r ≡ fieldAtFault (now (fields .entry)) ⌝ }
 {
     let by_field = limits_of(fields[0]);
     let mut i: usize = 0;
@@ -156,8 +156,8 @@ fn lowest_outside(fields: [u32; 40]) -> usize
 }
 
 // A sheet's fields by name.
-fn season_of(f: [u32; 40]) -> Season
-    ensures { λ r. ⌜ r ≡ seasonOf f ⌝ }
+fn season_of(f: &[u32; 40]) -> Season
+    ensures { λ r. ⌜ r ≡ seasonOf (now (f .entry)) ⌝ }
 {
     Season {
         month: f[0],
@@ -208,12 +208,12 @@ fn season_of(f: [u32; 40]) -> Season
 }
 
 // Forty numbers: the first of refusals 4 to 7 that applies.
-fn judge(fields: [u32; 40]) -> Verdict
-    ensures { λ r. ⌜ r ≡ fieldsVerdict fields ⌝ }
+fn judge(fields: &[u32; 40]) -> Verdict
+    requires { ⌜ length (now fields) ≡ 40 ⌝ }
+    ensures { λ r. ⌜ r ≡ fieldsVerdict (now (fields .entry)) ⌝ }
 {
-    let field = lowest_outside(fields);
-    if 0 < field {
-        return Verdict::Refused(4, field);
+    if any_outside(fields) {
+        return Verdict::Refused(4, lowest_outside(fields));
     }
     let s = season_of(fields);
     let days = season::season_days(s);
@@ -225,10 +225,23 @@ fn judge(fields: [u32; 40]) -> Verdict
 
 // ---- the sheet
 
+// The same by all seven refusals.
+fn read_fields(sheet: &[u8], fields: &mut [u32; 40]) -> Verdict
+    requires { ⌜ length (now fields) ≡ 40 ⌝ }
+    ensures { λ r. ⌜ onlyAccepted (seasonOf (now (fields .exit))) r ≡ sheetOf (now (sheet .entry)) ⌝ }
+{
+    match read_numbers(sheet, fields) {
+        Verdict::Refused(number, value) => return Verdict::Refused(number, value),
+        Verdict::Accepted => {}
+    }
+    judge(fields)
+}
+
 fn refused(number: u32, value: usize) -> Sheet
     ensures { λ r. ⌜ r ≡ refusal number value ⌝ }
 {
-    let season = season_of([0u32; 40]);
+    let fields = [0u32; 40];
+    let season = season_of(&fields);
     Sheet {
         season,
         verdict: Verdict::Refused(number, value),
@@ -239,21 +252,14 @@ fn refused(number: u32, value: usize) -> Sheet
 pub fn read(sheet: &[u8]) -> Sheet
     ensures { λ r. ⌜ r ≡ sheetOf (now (sheet .entry)) ⌝ }
 {
-    let numbers = read_numbers(sheet);
-    let fields = numbers.fields;
-    let form = numbers.verdict;
-    match form {
+    let mut fields = [0u32; 40];
+    match read_fields(sheet, &mut fields) {
         Verdict::Refused(number, value) => return refused(number, value),
         Verdict::Accepted => {}
     }
-    match judge(fields) {
-        Verdict::Refused(number, value) => refused(number, value),
-        Verdict::Accepted => {
-            let season = season_of(fields);
-            Sheet {
-                season,
-                verdict: Verdict::Accepted,
-            }
-        }
+    let season = season_of(&fields);
+    Sheet {
+        season,
+        verdict: Verdict::Accepted,
     }
 }

@@ -1,6 +1,7 @@
 -- `sheet::judge` meets its contract: no field is at fault where the season is made, so it is in its ranges (proofs/Ranges.antt).
 use mathlib.Core.Path.{_≡_, sym, ap, _∙_}
 use native.Mathlib.Omega.{arith}
+use borrow.Author.Tests.{ltb-true, ltb-false}
 use Rattle.sheet.specs.Sheets.{fieldAtFault}
 use Rattle.sheet.proofs.Ranges.{season-ranged}
 use Rattle.sheet.proofs.Verdicts.{fault-refused, chain}
@@ -10,26 +11,31 @@ use borrow.Author.Needs.{needs}
 use Rattle.sheet.proofs.judge.Statement.{statement}
 use Rattle.sheet.proofs.judge.Tie as tie
 
+any-outside-requires : tie.Need-any-outside-requires
+any-outside-requires c κs = search needs
+
 lowest-outside-requires : tie.Need-lowest-outside-requires
 lowest-outside-requires c κs = search needs
 
 returns : tie.Need-returns
 returns c =
-    let f = c .before .before .args .fields in
-    let e : c .before .lowest-outside .result ≡ fieldAtFault f = c .before .lowest-outside .ensures in
-    ap (Refused 4) e ∙ sym (fault-refused f (omega (arith, e, c .if1 .taken)))
+    let t = c .before in
+    let f = t .before .before .args .fields .now in
+    ap (Refused 4) (c .lowest-outside .ensures) ∙ sym (fault-refused f (ltb-true 0 (fieldAtFault f) (sym (t .before .any-outside .ensures) ∙ t .if1 .taken)))
 
 season-of-requires : tie.Need-season-of-requires
 season-of-requires c κs = search needs
 
 -- no field is at fault
-clear : (c : tie.Else1) → fieldAtFault (c .before .before .args .fields) ≡ 0
-clear c = omega (arith, c .before .lowest-outside .ensures, c .if1 .left)
+clear : (c : tie.Else1) → fieldAtFault (c .before .before .args .fields .now) ≡ 0
+clear c =
+    let f = c .before .before .args .fields .now in
+    omega (arith, ltb-false 0 (fieldAtFault f) (sym (c .before .any-outside .ensures) ∙ c .if1 .left))
 
 ranged : (c : tie.After-season-of) → Ranged (c .season-of .result)
 ranged c =
     let start = c .before .before .before in
-    rw (c .season-of .ensures) (season-ranged (start .args .fields) (start .good .0 .1 .0 .1) (clear (c .before)))
+    rw (c .season-of .ensures) (season-ranged (start .args .fields .now) (start .pre) (clear (c .before)))
 
 season-days-requires : tie.Need-season-days-requires
 season-days-requires c κs = ranged c
@@ -53,7 +59,7 @@ returns-2 c =
     let first = second .before .before in
     let days = first .before in
     let of = days .before in
-    chain (of .before .before .before .args .fields) (of .season-of .result) (days .season-days .result) (water .total-water .result) _ _ _
+    chain (of .before .before .before .args .fields .now) (of .season-of .result) (days .season-days .result) (water .total-water .result) _ _ _
     (clear (of .before)) (of .season-of .ensures) (days .season-days .ensures) (water .total-water .ensures)
     (first .or-refused .ensures) (second .or-refused2 .ensures) (c .or-refused3 .ensures)
 
@@ -61,6 +67,7 @@ pub judge-spec : {M : Type 1} → statement M
 judge-spec =
     tie.close
     (tie.spec
+    any-outside-requires
     lowest-outside-requires
     returns
     season-of-requires
