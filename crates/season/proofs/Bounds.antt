@@ -1,19 +1,19 @@
 -- What the sheet's ranges say of the numbers made from it.
 use Prim.Native.Nat.{ℕ, _+_, _-_, _*_, _≤_, _<_, min}
-use native.Mathlib.Nat.{mul-assoc, div-lt-iff-lt-mul}
+use native.Mathlib.Nat.{mul-assoc, div-le-self, div-lt-iff-lt-mul}
 use native.Mathlib.Omega.{arith}
 use lib.ListN.{getD}
 use borrow.Author.Tests.{le-leb, lt-leb}
 use Rattle.season.specs.declared.Season.{Season}
-use Rattle.season.specs.declared.Kc.{Kc}
 use Rattle.season.specs.Sheet.{Ranged, Valid, DayOf}
-use Rattle.season.specs.Rules.{ramp, effectiveRain}
-use Rattle.season.specs.Calendar.{monthDays}
-use Rattle.season.specs.Day.{rainOn, rootOn, totalOn, dateOf, kcOf, over, etoIn, cropNeed}
+use Rattle.season.specs.Rules.{effectiveRain}
+use Rattle.season.specs.Carried.{inverse, slopeOf}
+use Rattle.season.specs.Calendar.{monthDays, dateIs, Proper}
+use Rattle.season.specs.Day.{rainOn, rootOn, totalOn, dateOf, etoIn, cropNeed, rootingOf}
 use Rattle.season.proofs.Laws.{product, part-le}
 use Rattle.season.proofs.Whole.{by-order}
-use Rattle.season.proofs.Ramp.{ramp-le}
-use Rattle.season.proofs.Calendar.{Proper, on-proper, days-low}
+use Rattle.season.proofs.Slopes.{kc-slope, slope-small}
+use Rattle.season.proofs.Calendar.{on-proper, days-low}
 
 pub root-le : (s : Season) (i : ℕ) → Ranged s → rootOn s i ≤ 300
 root-le s i v =
@@ -24,50 +24,48 @@ pub total-le : (s : Season) (i : ℕ) → Ranged s → totalOn s i ≤ 120000
 total-le s i v = product (s .water) (rootOn s i) 400 300 (omega arith) (root-le s i v)
 
 -- the day that a season day is stands in the calendar
-pub date-proper : (s : Season) (i : ℕ) → Valid s → Proper (dateOf s i)
-unfolding dateOf
-date-proper s i v = on-proper _ (i - 1) (record {
+pub start-proper : (s : Season) → Valid s → Proper (dateIs (s .month) (s .first))
+start-proper s v = record {
   month-low = v .ranges .month .low≤;
   month-high = v .ranges .month .≤high;
   day-low = v .ranges .first .low≤;
   day-high = v .ranges .first .≤high;
-})
+}
 
--- a coefficient of at most 200 hundredths, over at most 200 days
-pub record Small (k : Kc) : Type 0 where
-  pub some : 1 ≤ k .bottom
-  pub few : k .bottom ≤ 200
-  pub top-le : k .top ≤ 200 * k .bottom
+pub date-proper : (s : Season) (i : ℕ) → Valid s → Proper (dateOf s i)
+unfolding dateOf
+date-proper s i v = on-proper _ (i - 1) (start-proper s v)
 
-plain : (k : ℕ) → k ≤ 200 → Small (over k 1)
-plain k h = record { some = omega arith; few = omega arith; top-le = omega arith }
+-- an inverse is no more than the scale and one, and times a small number it fits 64 bits
+inverse-le : (d : ℕ) → inverse d ≤ 17592186044417
+inverse-le d = omega (arith, div-le-self 17592186044416 d)
 
-sloping : (kp kn l k : ℕ) → kp ≤ 200 → kn ≤ 200 → 1 ≤ l → l ≤ 200 → k ≤ l → Small (over (ramp kp kn l k) l)
-sloping kp kn l k hp hn h1 hl hk = record { some = h1; few = hl; top-le = ramp-le kp kn l k 200 hk hp hn }
+pub raining-small : (e m : ℕ) → e ≤ 25000 → 28 ≤ m → e * inverse m < 18446744073709551616
+raining-small e m h l = omega (arith, product e (inverse m) 25000 17592186044417 h (inverse-le m))
 
-pub kc-small : (s : Season) (i : ℕ) → Valid s → DayOf s i → Small (kcOf s i)
-unfolding kcOf
-kc-small s i v d =
-    by-order (s .initial) i
-    (λ h. rw (le-leb _ _ h) (plain (s .kcini) (v .ranges .kcini .≤high)))
-    (λ h₁. rw (lt-leb _ _ h₁) (by-order (s .initial + s .development) i
-    (λ h. rw (le-leb _ _ h) (sloping _ _ _ _ (v .ranges .kcini .≤high) (v .ranges .kcmid .≤high) (v .ranges .development .low≤) (v .ranges .development .≤high) (omega arith)))
-    (λ h₂. rw (lt-leb _ _ h₂) (by-order (s .initial + s .development + s .middle) i
-    (λ h. rw (le-leb _ _ h) (plain (s .kcmid) (v .ranges .kcmid .≤high)))
-    (λ h₃. rw (lt-leb _ _ h₃) (sloping _ _ _ _ (v .ranges .kcmid .≤high) (v .ranges .kcend .≤high) (v .ranges .late .low≤) (v .ranges .late .≤high) (omega arith)))))))
+pub rooting-small : (s : Season) → Ranged s → rootingOf s < 18446744073709551616
+rooting-small s r =
+    omega (arith, product (s .full - s .sowing) (inverse (s .initial + s .development)) 300 17592186044417 (omega (arith, r .full .≤high)) (inverse-le (s .initial + s .development)))
 
 -- the product that is rounded, and the need
-pub weighed : (s : Season) (i : ℕ) → Valid s → DayOf s i → etoIn s (dateOf s i .month) * kcOf s i .top ≤ 300000 * kcOf s i .bottom
-weighed s i v d =
-    let k = kcOf s i in
-    omega (arith, product (etoIn s (dateOf s i .month)) (k .top) 1500 (200 * k .bottom) (v .ranges .eto _) (kc-small s i v d .top-le), mul-assoc 1500 200 (k .bottom))
+module _ (s : Season) (i : ℕ) (m : ℕ) (r : Ranged s) where
+  pub weighed : etoIn s m * slopeOf s i .top ≤ 300000 * slopeOf s i .bottom
+  weighed =
+      let k = slopeOf s i in
+      omega (arith, product (etoIn s m) (k .top) 1500 (200 * k .bottom) (r .eto _) (slope-small s i r .top-le), mul-assoc 1500 200 (k .bottom))
+
+  pub up-weighed : etoIn s m * slopeOf s i .up ≤ 300000
+  up-weighed = product _ _ 1500 200 (r .eto _) (slope-small s i r .up-le)
+
+  pub down-weighed : etoIn s m * slopeOf s i .down ≤ 300000
+  down-weighed = product _ _ 1500 200 (r .eto _) (slope-small s i r .down-le)
 
 pub need-le : (s : Season) (i : ℕ) → Valid s → DayOf s i → cropNeed s i ≤ 3000
 unfolding cropNeed
 need-le s i v d =
-    let k = kcOf s i in
-    let some : 1 ≤ k .bottom = kc-small s i v d .some in
-    let below : cropNeed s i < 3001 = div-lt-iff-lt-mul {k = 2 * (100 * k .bottom)} (omega arith) .1 (omega (arith, weighed s i v d)) in
+    let k = slopeOf s i in
+    let some : 1 ≤ k .bottom = slope-small s i (v .ranges) .some in
+    let below : cropNeed s i < 3001 = rw (kc-slope s i d) (div-lt-iff-lt-mul {k = 2 * (100 * k .bottom)} (omega arith) .1 (omega (arith, weighed s i (dateOf s i .month) (v .ranges)))) in
     omega arith
 
 -- rain

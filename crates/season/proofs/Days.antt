@@ -1,18 +1,22 @@
 -- A season day is carried on to the next: within a month its month's numbers stay, and over a month's end they change.
-use mathlib.Core.Path.{_≡_, sym, _∙_, ap}
-use Prim.Native.Nat.{ℕ, _+_, _-_, _*_, _≤_, _<_}
-use native.Mathlib.Nat.{mul-le-mul-left}
+use mathlib.Core.Path.{_≡_, refl, sym, _∙_, ap, subst}
+use Prim.Native.Nat.{ℕ, _+_, _-_, _*_, _/_, _≤_, _<_}
+use native.Mathlib.Nat.{mul-le-mul-left, mul-div-mul-left, div-le-self}
 use native.Mathlib.Omega.{arith}
 use Rattle.season.specs.declared.Season.{Season}
 use Rattle.season.specs.declared.Date.{Date}
+use Rattle.season.specs.declared.Slope.{Slope}
 use Rattle.season.specs.declared.SeasonDay.{SeasonDay}
-use Rattle.season.specs.Calendar.{monthDays, monthAfter, dateIs, nextDay, daysOn}
+use Rattle.season.specs.Calendar.{monthDays, monthAfter, dateIs, nextDay, daysOn, Proper}
 use Rattle.season.specs.Sheet.{Valid, DayOf}
 use Rattle.season.specs.Rules.{rainTo, plannedRain}
-use Rattle.season.specs.Day.{etoIn, dateOf, rainOn, onDate, dayOf, OnDay}
-use Rattle.season.proofs.Laws.{quotient-up}
-use Rattle.season.proofs.Calendar.{Proper, on-add, next-in, next-over, days-high}
-use Rattle.season.proofs.Bounds.{date-proper, effective-le}
+use Rattle.season.specs.Day.{etoIn, effectiveIn, dateOf, cropNeed, rainOn, rootingOf, onDate, dayOf, OnDay}
+use Rattle.season.specs.Carried.{scale, inverse, scaled, slopeOf}
+use Rattle.season.proofs.Laws.{product, quotient-up}
+use Rattle.season.proofs.Inverse.{high, by-inverse, high-product, by-inverse-product}
+use Rattle.season.proofs.Slopes.{kc-slope, slope-small}
+use Rattle.season.proofs.Calendar.{on-add, next-in, next-over, days-high}
+use Rattle.season.proofs.Bounds.{date-proper, effective-le, weighed, need-le}
 
 -- The date of the day after.
 pub date-next : (s : Season) (i : ℕ) → 1 ≤ i → dateOf s (i + 1) ≡ nextDay (dateOf s i)
@@ -21,6 +25,10 @@ date-next s i h =
     let start = dateIs (s .month) (s .first) in
     let e : i + 1 - 1 ≡ (i - 1) + 1 = omega arith in
     ap (daysOn start) e ∙ on-add start (i - 1) 1
+
+pub on-number : (s : Season) (i : ℕ) → dayOf s i .number ≡ i
+unfolding dayOf
+on-number s i = refl
 
 -- What was made as season day i is that day.
 pub number-is : (s : Season) (t : SeasonDay) (i : ℕ) → t ≡ dayOf s i → t .number ≡ i
@@ -31,6 +39,13 @@ pub on-day : (s : Season) (t : SeasonDay) (i : ℕ) → DayOf s i → t ≡ dayO
 on-day s t i d e =
     let n : t .number ≡ i = number-is s t i e in
     record { is = e ∙ ap (dayOf s) (sym n); of = rw n d }
+
+-- u is the day after t in its month.
+pub record OnInMonth (t u : SeasonDay) : Type 0 where
+  pub month : u .month ≡ t .month
+  pub day : u .day ≡ t .day + 1
+  pub length : u .length ≡ t .length
+  pub effective : u .effective ≡ t .effective
 
 module _ {s : Season} {t : SeasonDay} (v : Valid s) (o : OnDay s t) where
   -- The day's own month, day and length are those of its date, which the calendar has.
@@ -66,26 +81,105 @@ module _ {s : Season} {t : SeasonDay} (v : Valid s) (o : OnDay s t) where
       let d = day-small in
       quotient-up (t .effective * (t .day - 1)) (t .effective * t .day) (t .length) (omega (arith, d)) (mul-le-mul-left (t .effective) (omega arith))
 
-  pub eto-is : t .eto ≡ etoIn s (dateOf s (t .number) .month)
+  pub effective-is : t .effective ≡ effectiveIn s (t .month)
   unfolding dayOf
-  eto-is = ap (λ (d : SeasonDay). d .eto) (o .is)
+  effective-is = ap (λ (d : SeasonDay). d .effective) (o .is) ∙ ap (effectiveIn s) (sym (day-date .0))
+
+  -- Crop need by the day's own numbers.
+  pub top-is : t .top ≡ etoIn s (dateOf s (t .number) .month) * slopeOf s (t .number) .top + 50 * slopeOf s (t .number) .bottom
+  unfolding dayOf
+  top-is = ap (λ (d : SeasonDay). d .top) (o .is)
+
+  inverse-is : t .inverse ≡ inverse (100 * slopeOf s (t .number) .bottom)
+  unfolding dayOf
+  inverse-is = ap (λ (d : SeasonDay). d .inverse) (o .is)
+
+  pub top-small : t .top ≤ 60010000
+  top-small = rw top-is (omega (arith, weighed s (t .number) (dateOf s (t .number) .month) (v .ranges), slope-small s (t .number) (v .ranges) .few))
+
+  abbrev stage : Slope
+  stage = slopeOf s (t .number)
+
+  abbrev hundred : ℕ
+  hundred = 100 * stage .bottom
+
+  some : 0 < hundred
+  some = omega (arith, slope-small s (t .number) (v .ranges) .some)
+
+  small : t .top * hundred < scale
+  small = omega (arith, product (t .top) hundred 60010000 20000 top-small (omega (arith, slope-small s (t .number) (v .ranges) .few)))
+
+  need-quotient : t .top / hundred ≡ cropNeed s (t .number)
+  unfolding cropNeed
+  need-quotient =
+      let e = etoIn s (dateOf s (t .number) .month) in
+      let two : 2 * t .top ≡ 2 * (e * stage .top) + 100 * stage .bottom = omega (arith, top-is) in
+      rw (kc-slope s (t .number) (o .of), ← two) (sym (mul-div-mul-left (t .top) hundred (omega arith)))
+
+  pub need-is : scaled (t .top) (t .inverse) ≡ cropNeed s (t .number)
+  need-is = rw inverse-is (by-inverse (t .top) hundred some small ∙ need-quotient)
+
+  pub need-fits : t .top * t .inverse < 18446744073709551616
+  need-fits = rw inverse-is (omega (arith, high (t .top) hundred some small, need-quotient, need-le s (t .number) v (o .of)))
+
+  -- Planned rain and root depth by their inverses.
+  raining-is : t .raining ≡ t .effective * inverse (t .length)
+  unfolding dayOf
+  raining-is = ap (λ (d : SeasonDay). d .raining) (o .is) ∙ ap (λ (d : SeasonDay). d .effective * inverse (d .length)) (sym (o .is))
+
+  pub rooting-is : t .rooting ≡ rootingOf s
+  unfolding dayOf
+  rooting-is = ap (λ (d : SeasonDay). d .rooting) (o .is)
+
+  module _ (d : ℕ) (few : d ≤ 31) where
+    rained : t .effective * d ≤ 775000
+    rained = product (t .effective) d 25000 31 effective-at-most few
+
+    days : 0 < t .length
+    days = omega (arith, day-small)
+
+    within : t .effective * d * t .length < scale
+    within = omega (arith, product (t .effective * d) (t .length) 775000 31 rained (omega (arith, day-small)))
+
+    pub rain-to-is : scaled d (t .raining) ≡ rainTo (t .effective) d (t .length)
+    rain-to-is = rw raining-is (by-inverse-product d (t .effective) (t .length) days within)
+
+    pub rain-to-fits : d * t .raining < 18446744073709551616
+    rain-to-fits = rw raining-is (omega (arith, high-product d (t .effective) (t .length) days within, div-le-self (t .effective * d) (t .length), rained))
+
+  module _ (h : t .number < s .initial + s .development) where
+    rooted : (s .full - s .sowing) * t .number ≤ 120000
+    rooted = product (s .full - s .sowing) (t .number) 300 400 (omega (arith, v .ranges .full .≤high)) (omega (arith, v .ranges .initial .≤high, v .ranges .development .≤high))
+
+    reach : (s .full - s .sowing) * t .number * (s .initial + s .development) < scale
+    reach = omega (arith, product ((s .full - s .sowing) * t .number) (s .initial + s .development) 120000 400 rooted (omega (arith, v .ranges .initial .≤high, v .ranges .development .≤high)))
+
+    pub root-is : scaled (t .number) (t .rooting) ≡ (s .full - s .sowing) * t .number / (s .initial + s .development)
+    root-is = rw rooting-is (by-inverse-product (t .number) (s .full - s .sowing) (s .initial + s .development) (omega arith) reach)
+
+    pub root-few : (s .full - s .sowing) * t .number / (s .initial + s .development) ≤ 120000
+    root-few = omega (arith, div-le-self ((s .full - s .sowing) * t .number) (s .initial + s .development), rooted)
+
+    pub root-fits : t .number * t .rooting < 18446744073709551616
+    root-fits = rw rooting-is (omega (arith, high-product (t .number) (s .full - s .sowing) (s .initial + s .development) (omega arith) reach, root-few))
+
+  -- ---- the day after
 
   here : t ≡ onDate s (t .number) (dateIs (t .month) (t .day))
   unfolding dayOf
   here = o .is ∙ ap (onDate s (t .number)) (λ i. record { month = sym (day-date .0) i; day = sym (day-date .1) i })
 
-  after : (d : Date) → nextDay (dateIs (t .month) (t .day)) ≡ d → onDate s (t .number + 1) d ≡ dayOf s (t .number + 1)
+  pub after : (d : Date) → nextDay (dateIs (t .month) (t .day)) ≡ d → onDate s (t .number + 1) d ≡ dayOf s (t .number + 1)
   unfolding dayOf
   after d e =
       ap (onDate s (t .number + 1))
       (sym e ∙ ap nextDay (λ i. record { month = day-date .0 i; day = day-date .1 i }) ∙ sym (date-next s (t .number) (o .of .from)))
 
-  -- The day after, inside a month and over its end.
-  pub next-inside : t .day < t .length
-      → record { number = t .number + 1; month = t .month; day = t .day + 1; length = t .length; eto = t .eto; effective = t .effective } ≡ dayOf s (t .number + 1)
+  -- Inside a month: the date is a day on, and the month's numbers stay.
+  pub next-inside : t .day < t .length → OnInMonth t (dayOf s (t .number + 1))
   next-inside h =
-      (λ i. record { number = t .number + 1; month = t .month; day = t .day + 1; length = here i .length; eto = here i .eto; effective = here i .effective })
-      ∙ after (dateIs (t .month) (t .day + 1)) (next-in _ _ (rw (← length-is) h))
+      subst (OnInMonth t) (after (dateIs (t .month) (t .day + 1)) (next-in _ _ (rw (← length-is) h)))
+      (record { month = refl; day = refl; length = sym length-is; effective = sym effective-is })
 
   pub next-month : t .length ≤ t .day → onDate s (t .number + 1) (dateIs (monthAfter (t .month)) 1) ≡ dayOf s (t .number + 1)
   next-month h = after (dateIs (monthAfter (t .month)) 1) (next-over _ _ (rw (← length-is) h))

@@ -1,9 +1,12 @@
 pub mod Each
 pub mod Whole
 pub mod Laws
+pub mod Inverse
 pub mod Ramp
 pub mod Calendar
+pub mod Slopes
 pub mod Bounds
 pub mod Days
+pub mod Along
 pub mod Closing
 pub mod Claims

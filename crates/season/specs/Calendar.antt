@@ -1,7 +1,7 @@
 -- The calendar. February has 28 days, months are counted from 1, and a year follows a year.
 use mathlib.Core.Bool.{cond}
 use mathlib.Core.List.{List, [], _∷_}
-use Prim.Native.Nat.{ℕ, zero, suc, _+_, _-_}
+use Prim.Native.Nat.{ℕ, zero, suc, _+_, _-_, _≤_}
 use lib.Dec.{ltb}
 use lib.ListN.{getD}
 use Rattle.season.specs.declared.Date.{Date}
@@ -25,3 +25,10 @@ nextDay t = cond (ltb (t .day) (monthDays (t .month))) (dateIs (t .month) (t .da
 unfoldable pub daysOn : Date → ℕ → Date
 daysOn t zero = t
 daysOn t (suc n) = daysOn (nextDay t) n
+
+-- A day that the calendar has.
+pub record Proper (t : Date) : Type 0 where
+  pub month-low : 1 ≤ t .month
+  pub month-high : t .month ≤ 12
+  pub day-low : 1 ≤ t .day
+  pub day-high : t .day ≤ monthDays (t .month)

@@ -1,12 +1,13 @@
 -- Document 01, 'A day's numbers': season day i.
 use mathlib.Core.Bool.{cond}
 use mathlib.Core.Path.{_≡_}
-use Prim.Native.Nat.{ℕ, _+_, _-_, _*_, _≤_}
+use Prim.Native.Nat.{ℕ, zero, suc, _+_, _-_, _*_, _≤_, min}
 use lib.Dec.{leb}
 use lib.ListN.{getD}
 use Rattle.season.specs.Calendar.{dateIs, daysOn, monthDays}
 use Rattle.season.specs.Sheet.{Valid, DayOf}
 use Rattle.season.specs.Rules.{ramp, nearest, rootDepth, readyPart, effectiveRain, plannedRain}
+use Rattle.season.specs.Carried.{inverse, slopeOf}
 use Rattle.season.specs.declared.Season.{Season}
 use Rattle.season.specs.declared.Date.{Date}
 use Rattle.season.specs.declared.SeasonDay.{SeasonDay}
@@ -38,6 +39,11 @@ effectiveIn s m = effectiveRain (getD (s .rain) (m - 1) 0)
 unfoldable pub cropNeed : Season → ℕ → ℕ
 cropNeed s i = nearest (etoIn s (dateOf s i .month) * kcOf s i .top) (100 * kcOf s i .bottom)
 
+-- The sum of C over the k days after day i.
+unfoldable pub needsAfter : Season → ℕ → ℕ → ℕ
+needsAfter s i zero = 0
+needsAfter s i (suc k) = needsAfter s i k + cropNeed s (i + suc k)
+
 -- Planned rain.
 unfoldable pub rainOn : Season → ℕ → ℕ
 rainOn s i = plannedRain (effectiveIn s (dateOf s i .month)) (dateOf s i .day) (monthDays (dateOf s i .month))
@@ -52,7 +58,13 @@ totalOn s i = s .water * rootOn s i
 abbrev pub readyOn : Season → ℕ → ℕ
 readyOn s i = readyPart (s .fraction) (totalOn s i)
 
--- A season day as the code carries it from day to day: its number, its date, and its month's length, ETo and effective rain.
+-- What the roots grow, times the inverse of G.
+abbrev pub rootingOf : Season → ℕ
+rootingOf s = (s .full - s .sowing) * inverse (s .initial + s .development)
+
+-- A season day as the code carries it from day to day: its number, its date, its month's length and effective rain; crop need as a quotient,
+-- whose top grows by `up` less `down` on each of the `left` days after it in its month and stage; the inverse of 100 × L, the effective rain
+-- times the inverse of the month's length, and what the roots grow.
 abbrev pub onDate : Season → ℕ → Date → SeasonDay
 onDate s i t =
     record {
@@ -60,8 +72,14 @@ onDate s i t =
       month = t .month;
       day = t .day;
       length = monthDays (t .month);
-      eto = etoIn s (t .month);
       effective = effectiveIn s (t .month);
+      left = min (monthDays (t .month) - t .day) (slopeOf s i .last - i);
+      top = etoIn s (t .month) * slopeOf s i .top + 50 * slopeOf s i .bottom;
+      up = etoIn s (t .month) * slopeOf s i .up;
+      down = etoIn s (t .month) * slopeOf s i .down;
+      inverse = inverse (100 * slopeOf s i .bottom);
+      raining = effectiveIn s (t .month) * inverse (monthDays (t .month));
+      rooting = rootingOf s;
     }
 
 unfoldable pub dayOf : Season → ℕ → SeasonDay

@@ -2,6 +2,7 @@
 pub mod Calendar
 pub mod Sheet
 pub mod Rules
+pub mod Carried
 pub mod Day
 pub mod Closing
 pub mod Depths

@@ -2,11 +2,12 @@
 // Depths are points, hundredths of a millimetre.
 ghost use mathlib.Core.Path.{_≡_};
 ghost use Prim.Native.Nat.{_+_, _-_, _*_, _≤_, _<_, min};
-ghost use Rattle.season.specs.Calendar.{monthDays, monthAfter, dateIs};
+ghost use Rattle.season.specs.Calendar.{monthDays, monthAfter, dateIs, nextDay, Proper};
 ghost use Rattle.season.specs.Sheet.{Ranged, Valid, DayOf, seasonDays};
-ghost use Rattle.season.specs.Rules.{ramp, nearest, effectiveRain, rainTo};
-ghost use Rattle.season.specs.Day.{dateOf, kcOf, cropNeed, rootOn, totalOn, readyOn, onDate, dayOf, OnDay};
-ghost use Rattle.season.specs.Closing.{wanted, closeDay, Closable};
+ghost use Rattle.season.specs.Rules.{ramp, effectiveRain, rainTo};
+ghost use Rattle.season.specs.Carried.{inverse, scaled, flat, sloping, slopeOf};
+ghost use Rattle.season.specs.Day.{dateOf, kcOf, cropNeed, needsAfter, rootOn, totalOn, readyOn, rootingOf, onDate, dayOf, OnDay};
+ghost use Rattle.season.specs.Closing.{cropUse, closeDay, Closable};
 ghost use Rattle.season.specs.Depths.{grossOf};
 
 // The numbers of a sheet, by name: fields 1 and 2 the start, 3 to 6 the stages, 7 to 9 the crop coefficients, 10 to 21 ETo and
@@ -39,15 +40,32 @@ pub struct Date {
     pub day: u32,
 }
 
-// A season day as it is carried from day to day, so that no walk over the year is made for each: its number, its date, and its
-// month's length, ETo and effective rain.
+// Kc within one stage: `top` / `bottom` on a day, `up` less `down` more over the same bottom on the next, up to the day `last`.
+struct Slope {
+    top: u32,
+    bottom: u32,
+    up: u32,
+    down: u32,
+    last: u32,
+}
+
+// A season day as it is carried from day to day, so that neither a walk over the year nor a division is made for each: its number, its
+// date, and its month's length and effective rain. Crop need is `top` / (100 × L), where half a point is in `top`; the `left` days after
+// this one are of its month and its stage, and there `top` grows by `up` less `down` a day. Then the inverse of 100 × L; effective rain
+// times the inverse of the month's length, and what the roots grow times the inverse of G.
 pub struct SeasonDay {
     pub number: u32,
     pub month: u32,
     pub day: u32,
     pub length: u32,
-    pub eto: u32,
     pub effective: u32,
+    pub left: u32,
+    pub top: u32,
+    pub up: u32,
+    pub down: u32,
+    pub inverse: u64,
+    pub raining: u64,
+    pub rooting: u64,
 }
 
 // A crop coefficient in hundredths, top / bottom, not rounded.
@@ -84,20 +102,23 @@ fn smaller(a: u32, b: u32) -> u32
     if a <= b { a } else { b }
 }
 
-// top / bottom to the nearest whole number, a half going up.
-fn nearest_of(top: u32, bottom: u32) -> u32
-    requires { ⌜ (0 < bottom) × (2 * top + bottom < 4294967296) × (2 * bottom < 4294967296) ⌝ }
-    ensures { λ r. ⌜ r ≡ nearest top bottom ⌝ }
+// 2^44.
+const SCALE: u64 = 17592186044416;
+
+// The inverse of d on that scale: a product with it stands in place of a division by d.
+fn inverse_of(d: u32) -> u64
+    requires { ⌜ 0 < d ⌝ }
+    ensures { λ r. ⌜ r ≡ inverse d ⌝ }
 {
-    (2 * top + bottom) / (2 * bottom)
+    SCALE / d as u64 + 1
 }
 
-// The same over a hundred, a constant, which costs no division.
-fn nearest_hundredth(top: u32) -> u32
-    requires { ⌜ top < 4294967246 ⌝ }
-    ensures { λ r. ⌜ r ≡ nearest top 100 ⌝ }
+// x / d by the inverse of d, and x × y / d by y times it (`by-inverse`, proofs/Inverse.antt).
+fn quotient(x: u32, inverse: u64) -> u32
+    requires { ⌜ x * inverse < 18446744073709551616 ⌝ }
+    ensures { λ r. ⌜ r ≡ scaled x inverse ⌝ }
 {
-    (top + 50) / 100
+    (x as u64 * inverse / SCALE) as u32
 }
 
 // ---- the sheet
@@ -158,51 +179,76 @@ fn ramp_of(before: u32, after: u32, days: u32, day: u32) -> u32
     sum as u32
 }
 
+// A stage of one coefficient.
+fn flat_to(last: u32, kc: u32) -> Slope
+    ensures { λ r. ⌜ r ≡ flat last kc ⌝ }
+{
+    Slope {
+        top: kc,
+        bottom: 1,
+        up: 0,
+        down: 0,
+        last,
+    }
+}
+
+// Day k of a stage of L days that goes from Kp to Kn.
+fn sloping_to(last: u32, before: u32, after: u32, days: u32, day: u32) -> Slope
+    requires { ⌜ (before ≤ 200) × (after ≤ 200) × (days ≤ 200) × (day ≤ days) ⌝ }
+    ensures { λ r. ⌜ r ≡ sloping last before after days day ⌝ }
+{
+    Slope {
+        top: ramp_of(before, after, days, day),
+        bottom: days,
+        up: after,
+        down: before,
+        last,
+    }
+}
+
+// The stage of a day. Past the season there is none, and no day to go on to.
+fn slope_of(s: Season, day: u32) -> Slope
+    requires { ⌜ Ranged s ⌝ }
+    ensures { λ r. ⌜ r ≡ slopeOf s day ⌝ }
+{
+    let sown = s.initial;
+    let grown = sown + s.development;
+    let ripe = grown + s.middle;
+    let end = ripe + s.late;
+    if day <= sown {
+        return flat_to(sown, s.kcini);
+    }
+    if day <= grown {
+        return sloping_to(grown, s.kcini, s.kcmid, s.development, day - sown);
+    }
+    if day <= ripe {
+        return flat_to(ripe, s.kcmid);
+    }
+    if day <= end {
+        return sloping_to(end, s.kcmid, s.kcend, s.late, day - ripe);
+    }
+    flat_to(end, 0)
+}
+
 pub fn kc_of(s: Season, day: u32) -> Kc
     requires { ⌜ Valid s ⌝ }
     requires { ⌜ DayOf s day ⌝ }
     ensures { λ r. ⌜ r ≡ kcOf s day ⌝ }
 {
-    if day <= s.initial {
-        return Kc {
-            top: s.kcini,
-            bottom: 1,
-        };
-    }
-    let a = day - s.initial;
-    if a <= s.development {
-        let top = ramp_of(s.kcini, s.kcmid, s.development, a);
-        return Kc {
-            top,
-            bottom: s.development,
-        };
-    }
-    let b = a - s.development;
-    if b <= s.middle {
-        return Kc {
-            top: s.kcmid,
-            bottom: 1,
-        };
-    }
-    let top = ramp_of(s.kcmid, s.kcend, s.late, b - s.middle);
+    let slope = slope_of(s, day);
     Kc {
-        top,
-        bottom: s.late,
+        top: slope.top,
+        bottom: slope.bottom,
     }
 }
 
-// C of a season day. A stage of one coefficient is divided by a constant.
+// C of a season day.
 pub fn crop_need(s: Season, t: SeasonDay) -> u32
     requires { ⌜ Valid s ⌝ }
     requires { ⌜ OnDay s t ⌝ }
     ensures { λ r. ⌜ r ≡ cropNeed s (t .number) ⌝ }
 {
-    let kc = kc_of(s, t.number);
-    let top = t.eto * kc.top;
-    if kc.bottom == 1 {
-        return nearest_hundredth(top);
-    }
-    nearest_of(top, 100 * kc.bottom)
+    quotient(t.top, t.inverse)
 }
 
 // Root depth Z. Roots are full grown on day G.
@@ -226,12 +272,34 @@ pub fn total_water(s: Season, day: u32) -> u32
     s.water * root_depth(s, day)
 }
 
-// R.
-pub fn ready_water(s: Season, day: u32) -> u32
-    requires { ⌜ Ranged s ⌝ }
-    ensures { λ r. ⌜ r ≡ readyOn s day ⌝ }
+// Root depth on a season day, with no division.
+fn root_on(s: Season, t: SeasonDay) -> u32
+    requires { ⌜ Valid s ⌝ }
+    requires { ⌜ OnDay s t ⌝ }
+    ensures { λ r. ⌜ r ≡ rootOn s (t .number) ⌝ }
 {
-    s.fraction * total_water(s, day) / 100
+    if s.initial + s.development <= t.number {
+        return s.sowing + less(s.full, s.sowing);
+    }
+    s.sowing + quotient(t.number, t.rooting)
+}
+
+// T on a season day.
+pub fn total_on(s: Season, t: SeasonDay) -> u32
+    requires { ⌜ Valid s ⌝ }
+    requires { ⌜ OnDay s t ⌝ }
+    ensures { λ r. ⌜ r ≡ totalOn s (t .number) ⌝ }
+{
+    s.water * root_on(s, t)
+}
+
+// R on a season day.
+pub fn ready_on(s: Season, t: SeasonDay) -> u32
+    requires { ⌜ Valid s ⌝ }
+    requires { ⌜ OnDay s t ⌝ }
+    ensures { λ r. ⌜ r ≡ readyOn s (t .number) ⌝ }
+{
+    s.fraction * total_on(s, t) / 100
 }
 
 pub fn effective_rain(q: u32) -> u32
@@ -245,31 +313,67 @@ pub fn effective_rain(q: u32) -> u32
     }
 }
 
-// Of a month's effective rain e, what is planned on the first d of its m days.
-pub fn rain_to(e: u32, d: u32, m: u32) -> u32
-    requires { ⌜ (e ≤ 25000) × (d ≤ 31) × (1 ≤ m) ⌝ }
-    ensures { λ r. ⌜ r ≡ rainTo e d m ⌝ }
+// Of the effective rain of t's month, what is planned on its first d days.
+pub fn rain_to(s: Season, t: SeasonDay, d: u32) -> u32
+    requires { ⌜ Valid s ⌝ }
+    requires { ⌜ OnDay s t ⌝ }
+    requires { ⌜ d ≤ 31 ⌝ }
+    ensures { λ r. ⌜ r ≡ rainTo (t .effective) d (t .length) ⌝ }
 {
-    e * d / m
+    quotient(d, t.raining)
 }
 
 // ---- from day to day
 
-// A season day on a date.
-fn on_date(s: Season, number: u32, month: u32, day: u32) -> SeasonDay
+// What the roots grow, times the inverse of G.
+fn rooting_of(s: Season) -> u64
     requires { ⌜ Ranged s ⌝ }
-    requires { ⌜ (1 ≤ month) × (month ≤ 12) ⌝ }
-    ensures { λ r. ⌜ r ≡ onDate s number (dateIs month day) ⌝ }
+    ensures { λ r. ⌜ r ≡ rootingOf s ⌝ }
 {
-    let at = (month - 1) as usize;
+    less(s.full, s.sowing) as u64 * inverse_of(s.initial + s.development)
+}
+
+// A season day on a date. What the roots grow comes along. The months' numbers are copied first: an index into them does not then hold the
+// whole season in memory.
+fn on_date(s: Season, number: u32, date: Date, rooting: u64) -> SeasonDay
+    requires { ⌜ Valid s ⌝ }
+    requires { ⌜ Proper date ⌝ }
+    requires { ⌜ rooting ≡ rootingOf s ⌝ }
+    ensures { λ r. ⌜ r ≡ onDate s number date ⌝ }
+{
+    let at = (date.month - 1) as usize;
+    let length = month_days(date.month);
+    let etos = s.eto;
+    let rains = s.rain;
+    let eto = etos[at];
+    let effective = effective_rain(rains[at]);
+    let slope = slope_of(s, number);
     SeasonDay {
         number,
-        month,
-        day,
-        length: month_days(month),
-        eto: s.eto[at],
-        effective: effective_rain(s.rain[at]),
+        month: date.month,
+        day: date.day,
+        length,
+        effective,
+        left: smaller(length - date.day, less(slope.last, number)),
+        top: eto * slope.top + 50 * slope.bottom,
+        up: eto * slope.up,
+        down: eto * slope.down,
+        inverse: inverse_of(100 * slope.bottom),
+        raining: effective as u64 * inverse_of(length),
+        rooting,
     }
+}
+
+// The first day of a season.
+pub fn first_day(s: Season) -> SeasonDay
+    requires { ⌜ Valid s ⌝ }
+    ensures { λ r. ⌜ r ≡ dayOf s 1 ⌝ }
+{
+    let date = Date {
+        month: s.month,
+        day: s.first,
+    };
+    on_date(s, 1, date, rooting_of(s))
 }
 
 // A season day by its number.
@@ -278,41 +382,99 @@ pub fn day_of(s: Season, number: u32) -> SeasonDay
     requires { ⌜ DayOf s number ⌝ }
     ensures { λ r. ⌜ r ≡ dayOf s number ⌝ }
 {
-    let date = date_of(s, number);
-    on_date(s, number, date.month, date.day)
+    on_date(s, number, date_of(s, number), rooting_of(s))
 }
 
-// The day after: its month's numbers change with the month.
+// So many days on, in the same month and stage.
+pub fn further_on(s: Season, t: SeasonDay, days: u32) -> SeasonDay
+    requires { ⌜ Valid s ⌝ }
+    requires { ⌜ OnDay s t ⌝ }
+    requires { ⌜ days ≤ t .left ⌝ }
+    ensures { λ r. ⌜ r ≡ dayOf s (t .number + days) ⌝ }
+{
+    SeasonDay {
+        number: t.number + days,
+        month: t.month,
+        day: t.day + days,
+        length: t.length,
+        effective: t.effective,
+        left: t.left - days,
+        top: t.top + days * t.up - days * t.down,
+        up: t.up,
+        down: t.down,
+        inverse: t.inverse,
+        raining: t.raining,
+        rooting: t.rooting,
+    }
+}
+
+// The date after, by the day's own numbers.
+fn date_after(t: SeasonDay) -> Date
+    requires { ⌜ Proper (dateIs (t .month) (t .day)) ⌝ }
+    requires { ⌜ t .length ≡ monthDays (t .month) ⌝ }
+    ensures { λ r. ⌜ r ≡ nextDay (dateIs (t .month) (t .day)) ⌝ }
+{
+    if t.day < t.length {
+        return Date {
+            month: t.month,
+            day: t.day + 1,
+        };
+    }
+    Date {
+        month: month_after(t.month),
+        day: 1,
+    }
+}
+
+// The day after.
 pub fn next_day(s: Season, t: SeasonDay) -> SeasonDay
     requires { ⌜ Valid s ⌝ }
     requires { ⌜ OnDay s t ⌝ }
     ensures { λ r. ⌜ r ≡ dayOf s (t .number + 1) ⌝ }
 {
-    if t.day < t.length {
-        return SeasonDay {
-            number: t.number + 1,
-            month: t.month,
-            day: t.day + 1,
-            length: t.length,
-            eto: t.eto,
-            effective: t.effective,
-        };
+    if 0 < t.left {
+        return further_on(s, t, 1);
     }
-    on_date(s, t.number + 1, month_after(t.month), 1)
+    on_date(s, t.number + 1, date_after(t), t.rooting)
+}
+
+// The crop needs of the `days` after t in its month and stage, in all.
+pub fn need_after(s: Season, t: SeasonDay, days: u32) -> u32
+    requires { ⌜ Valid s ⌝ }
+    requires { ⌜ OnDay s t ⌝ }
+    requires { ⌜ days ≤ t .left ⌝ }
+    ensures { λ r. ⌜ r ≡ needsAfter s (t .number) days ⌝ }
+{
+    if t.up == t.down {
+        return days * quotient(t.top, t.inverse);
+    }
+    let mut top = t.top;
+    let mut sum: u32 = 0;
+    let mut i: u32 = 0;
+    while i < days {
+        top = top + t.up - t.down;
+        sum += quotient(top, t.inverse);
+        i += 1;
+    }
+    sum
 }
 
 // ---- closing a day
 
-// Crop use, but for the limit T − D1.
-fn wanted_use(d1: u32, need: u32, total: u32, ready: u32) -> u32
+// Crop use U. Where C is at most T − R, a share of C is at most T − D1: the limit is not waited for.
+fn crop_use(d1: u32, need: u32, total: u32, ready: u32) -> u32
     requires { ⌜ Closable d1 0 need total ready ⌝ }
-    ensures { λ r. ⌜ r ≡ wanted d1 need total ready ⌝ }
+    ensures { λ r. ⌜ r ≡ cropUse d1 need total ready ⌝ }
 {
+    let rest = total - d1;
     if d1 <= ready {
-        need
-    } else {
-        need * (total - d1) / (total - ready)
+        return smaller(need, rest);
     }
+    let share = need * rest / (total - ready);
+    if need <= total - ready {
+        return share;
+    }
+    smaller(share, rest)
 }
 
 pub fn close_day(depletion: u32, water: u32, need: u32, total: u32, ready: u32) -> DayClose
@@ -320,7 +482,7 @@ pub fn close_day(depletion: u32, water: u32, need: u32, total: u32, ready: u32) 
     ensures { λ r. ⌜ r ≡ closeDay depletion water need total ready ⌝ }
 {
     let d1 = less(depletion, water);
-    let used = smaller(wanted_use(d1, need, total, ready), total - d1);
+    let used = crop_use(d1, need, total, ready);
     DayClose {
         used,
         percolated: less(water, depletion),

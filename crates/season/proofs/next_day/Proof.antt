@@ -1,45 +1,41 @@
--- Inside a month its numbers stay; over its end they are the next month's.
-use mathlib.Core.Path.{_∙_, ap}
-use Prim.Native.Nat.{ℕ, _+_}
-use Rattle.season.specs.Calendar.{dateIs}
-use Rattle.season.specs.Day.{onDate}
-use Rattle.season.proofs.Calendar.{after-low, after-high}
-use Rattle.season.proofs.Days.{day-proper, next-inside, next-month}
+-- In its month and stage a day is carried on by sums; else the day after is made anew.
+use mathlib.Core.Path.{sym, _∙_}
+use Rattle.season.proofs.Calendar.{next-proper}
+use Rattle.season.proofs.Days.{day-proper, length-is, rooting-is, after}
 use borrow.Author.Needs.{needs}
 use Rattle.season.proofs.next_day.Statement.{statement}
 use Rattle.season.proofs.next_day.Tie as tie
 
-add-t4 : tie.Need-add-t4
-add-t4 c = search needs
-
-add-t5 : tie.Need-add-t5
-add-t5 c = search needs
+further-on-requires : tie.Need-further-on-requires
+further-on-requires c κs = search needs
 
 returns : tie.Need-returns
-returns c =
-    let at-if1 = c .before .before in
-    let start = at-if1 .before .before in
-    next-inside (start .pre .0) (start .pre .1) (at-if1 .if1 .taken)
+returns c = search needs
 
 add-on-date : tie.Need-add-on-date
 add-on-date c = search needs
 
-month-after-requires : tie.Need-month-after-requires
-month-after-requires c κs = day-proper (c .before .before .before .pre .0) (c .before .before .before .pre .1) .month-high
+date-after-requires : tie.Need-date-after-requires
+date-after-requires c κs = (day-proper (c .before .before .before .pre .0) (c .before .before .before .pre .1), length-is (c .before .before .before .pre .0) (c .before .before .before .pre .1))
 
 on-date-requires : tie.Need-on-date-requires
 on-date-requires c κs =
     let start = c .before .before .before .before in
-    rw (c .month-after .ensures) (start .pre .0 .ranges, (after-low (start .args .t .month), after-high (start .args .t .month)))
+    rw (c .date-after .ensures) (start .pre .0, (next-proper _ (day-proper (start .pre .0) (start .pre .1)), rooting-is (start .pre .0) (start .pre .1)))
 
 returns-2 : tie.Need-returns-2
 returns-2 c =
-    let at-month-after = c .before in
-    let at-if1 = at-month-after .before .before in
-    let start = at-if1 .before .before in
-    c .on-date .ensures ∙ ap (λ (m : ℕ). onDate (start .args .s) (start .args .t .number + 1) (dateIs m 1)) (at-month-after .month-after .ensures) ∙ next-month (start .pre .0) (start .pre .1) (at-if1 .if1 .left)
+    let at-date-after = c .before in
+    let start = at-date-after .before .before .before .before in
+    c .on-date .ensures ∙ after (start .pre .0) (start .pre .1) _ (sym (at-date-after .date-after .ensures))
 
 pub next-day-spec : {M : Type 1} → statement M
 next-day-spec =
     tie.close
-    (tie.spec add-t4 add-t5 returns add-on-date month-after-requires on-date-requires returns-2)
+    (tie.spec
+    further-on-requires
+    returns
+    add-on-date
+    date-after-requires
+    on-date-requires
+    returns-2)

@@ -1,0 +1,258 @@
+-- Within a month and a stage a season day is carried on by sums alone.
+use mathlib.Core.Path.{_≡_, refl, sym, _∙_, ap, subst}
+use Prim.Native.Nat.{ℕ, zero, suc, _+_, _-_, _*_, _≤_, _<_}
+use native.Mathlib.Nat.{mul-add, add-mul, suc-mul}
+use native.Mathlib.Numerals.{add-one}
+use native.Mathlib.Omega.{arith}
+use Rattle.season.specs.declared.Season.{Season}
+use Rattle.season.specs.declared.Date.{Date}
+use Rattle.season.specs.declared.SeasonDay.{SeasonDay}
+use Rattle.season.specs.Calendar.{monthDays, dateIs}
+use Rattle.season.specs.Sheet.{Valid, seasonDays}
+use Rattle.season.specs.Carried.{inverse, scaled, slopeOf}
+use Rattle.season.specs.Day.{etoIn, dateOf, cropNeed, needsAfter, onDate, dayOf, OnDay}
+use Rattle.season.proofs.Calendar.{next-in, days-high}
+use Rattle.season.proofs.Slopes.{slope-next, last-within}
+use Rattle.season.proofs.Laws.{product}
+use Rattle.season.proofs.Bounds.{date-proper, need-le, up-weighed, down-weighed}
+use Rattle.season.proofs.Days.{date-next, on-day, on-number, top-small, need-is, need-fits}
+
+-- b is k days after a, in its month and stage.
+pub record Along (k : ℕ) (a b : SeasonDay) : Type 0 where
+  pub number : b .number ≡ a .number + k
+  pub month : b .month ≡ a .month
+  pub day : b .day ≡ a .day + k
+  pub length : b .length ≡ a .length
+  pub effective : b .effective ≡ a .effective
+  pub left : b .left + k ≡ a .left
+  pub top : b .top + k * a .down ≡ a .top + k * a .up
+  pub up : b .up ≡ a .up
+  pub down : b .down ≡ a .down
+  pub inverse : b .inverse ≡ a .inverse
+  pub raining : b .raining ≡ a .raining
+  pub rooting : b .rooting ≡ a .rooting
+
+along-none : (a b : SeasonDay) → b ≡ a → Along 0 a b
+along-none a b e = rw e (record {
+  number = omega arith;
+  month = refl;
+  day = omega arith;
+  length = refl;
+  effective = refl;
+  left = omega arith;
+  top = omega arith;
+  up = refl;
+  down = refl;
+  inverse = refl;
+  raining = refl;
+  rooting = refl;
+})
+
+-- a day more
+along-more : (k : ℕ) (a b c : SeasonDay) → Along k a b → Along 1 b c → Along (k + 1) a c
+along-more k a b c p q = record {
+  number = omega (arith, p .number, q .number);
+  month = q .month ∙ p .month;
+  day = omega (arith, p .day, q .day);
+  length = q .length ∙ p .length;
+  effective = q .effective ∙ p .effective;
+  left = omega (arith, p .left, q .left);
+  top = omega (arith, p .top, q .top, p .up, p .down, add-mul k 1 (a .down), add-mul k 1 (a .up));
+  up = q .up ∙ p .up;
+  down = q .down ∙ p .down;
+  inverse = q .inverse ∙ p .inverse;
+  raining = q .raining ∙ p .raining;
+  rooting = q .rooting ∙ p .rooting;
+}
+
+-- the dates and the stage go on
+on-dates : (s : Season) (i : ℕ) (t : Date) → t .day < monthDays (t .month) → i < slopeOf s i .last → Along 1 (onDate s i t) (onDate s (i + 1) (dateIs (t .month) (t .day + 1)))
+on-dates s i t h m =
+    let n = slope-next s i m in
+    let e = etoIn s (t .month) in
+    let a = slopeOf s i in
+    let b = slopeOf s (i + 1) in
+    record {
+      number = refl;
+      month = refl;
+      day = refl;
+      length = refl;
+      effective = refl;
+      left = omega (arith, n .last);
+      top = omega (arith, n .bottom, ap (λ (x : ℕ). e * x) (n .top), mul-add e (b .top) (a .down), mul-add e (a .top) (a .up));
+      up = ap (λ (x : ℕ). e * x) (n .up);
+      down = ap (λ (x : ℕ). e * x) (n .down);
+      inverse = ap (λ (x : ℕ). inverse (100 * x)) (n .bottom);
+      raining = refl;
+      rooting = refl;
+    }
+
+along-one : (s : Season) (i : ℕ) → 1 ≤ i → 0 < dayOf s i .left → Along 1 (dayOf s i) (dayOf s (i + 1))
+unfolding dayOf
+along-one s i h l =
+    let t = dateOf s i in
+    let more : t .day < monthDays (t .month) = omega arith in
+    subst (λ (d : Date). Along 1 (onDate s i t) (onDate s (i + 1) d)) (sym (date-next s i h ∙ next-in (t .month) (t .day) more))
+    (on-dates s i t more (omega arith))
+
+along-days : (s : Season) (i k : ℕ) → 1 ≤ i → k ≤ dayOf s i .left → Along k (dayOf s i) (dayOf s (i + k))
+along-days s i zero h l = along-none _ _ (ap (dayOf s) (omega arith))
+along-days s i (suc k) h l =
+    let p = along-days s i k h (omega arith) in
+    let q = along-one s (i + k) (omega arith) (omega (arith, p .left)) in
+    let e : i + k + 1 ≡ i + suc k = omega arith in
+    let f : k + 1 ≡ suc k = add-one k in
+    subst (λ (n : ℕ). Along n (dayOf s i) (dayOf s (i + suc k))) f (subst (λ (n : ℕ). Along (k + 1) (dayOf s i) (dayOf s n)) e (along-more k _ _ _ p q))
+
+module _ {s : Season} {t : SeasonDay} (v : Valid s) (o : OnDay s t) (k : ℕ) (h : k ≤ t .left) where
+  pub along : Along k t (dayOf s (t .number + k))
+  along =
+      let l : k ≤ dayOf s (t .number) .left = rw (← (ap (λ (d : SeasonDay). d .left) (o .is))) h in
+      subst (λ (d : SeasonDay). Along k d (dayOf s (t .number + k))) (sym (o .is)) (along-days s (t .number) k (o .of .from) l)
+
+  -- `top` does not go below zero
+  pub along-top : k * t .down ≤ t .top + k * t .up
+  along-top = omega (arith, along .top)
+
+  pub along-is : record {
+    number = t .number + k;
+    month = t .month;
+    day = t .day + k;
+    length = t .length;
+    effective = t .effective;
+    left = t .left - k;
+    top = t .top + k * t .up - k * t .down;
+    up = t .up;
+    down = t .down;
+    inverse = t .inverse;
+    raining = t .raining;
+    rooting = t .rooting;
+  } ≡ dayOf s (t .number + k)
+  along-is =
+      let a = along in
+      let d = dayOf s (t .number + k) in
+      let left : d .left ≡ t .left - k = omega (arith, a .left) in
+      let top : d .top ≡ t .top + k * t .up - k * t .down = omega (arith, a .top) in
+      λ i. record {
+        number = sym (a .number) i;
+        month = sym (a .month) i;
+        day = sym (a .day) i;
+        length = sym (a .length) i;
+        effective = sym (a .effective) i;
+        left = sym left i;
+        top = sym top i;
+        up = sym (a .up) i;
+        down = sym (a .down) i;
+        inverse = sym (a .inverse) i;
+        raining = sym (a .raining) i;
+        rooting = sym (a .rooting) i;
+      }
+
+module _ {s : Season} {t : SeasonDay} (v : Valid s) (o : OnDay s t) where
+  pub left-few : t .left ≤ 30
+  unfolding dayOf
+  left-few =
+      let p = date-proper s (t .number) v in
+      rw (ap (λ (d : SeasonDay). d .left) (o .is)) (omega (arith, p .day-low, days-high _ (p .month-low) (p .month-high)))
+
+  module _ (k : ℕ) (h : k ≤ t .left) where
+    pub grows-by : (k * t .up ≤ 9000000) × (k * t .down ≤ 9000000)
+    unfolding dayOf
+    grows-by =
+        let few : k ≤ 30 = omega (arith, left-few) in (
+          rw (ap (λ (d : SeasonDay). d .up) (o .is)) (product k _ 30 300000 few (up-weighed s (t .number) _ (v .ranges))),
+          rw (ap (λ (d : SeasonDay). d .down) (o .is)) (product k _ 30 300000 few (down-weighed s (t .number) _ (v .ranges))),
+        )
+
+-- ---- the needs of the days after
+
+module _ {s : Season} {t : SeasonDay} (v : Valid s) (o : OnDay s t) where
+  -- A day of the stretch is a day of the season, and what it carries gives its need.
+  pub along-on : (k : ℕ) → k ≤ t .left → OnDay s (dayOf s (t .number + k))
+  unfolding dayOf
+  along-on k h = on-day s _ (t .number + k) (record { from = omega (arith, o .of .from); to = omega (arith, h, left-within) }) refl
+    where
+      left-within : t .left + t .number ≤ seasonDays s
+      left-within = rw (ap (λ (d : SeasonDay). d .left) (o .is)) (omega (arith, last-within s (t .number) (v .ranges) (o .of)))
+
+  module _ (k x : ℕ) (h : k ≤ t .left) (e : x + k * t .down ≡ t .top + k * t .up) where
+    top-along : x ≡ dayOf s (t .number + k) .top
+    top-along = omega (arith, e, along v o k h .top)
+
+    pub need-along : scaled x (t .inverse) ≡ cropNeed s (t .number + k)
+    need-along =
+        let d = on-number s (t .number + k) in
+        rw (top-along, ← (along v o k h .inverse)) (need-is v (along-on k h) ∙ ap (cropNeed s) d)
+
+    pub need-along-fits : x * t .inverse < 18446744073709551616
+    need-along-fits = rw (top-along, ← (along v o k h .inverse)) (need-fits v (along-on k h))
+
+  pub need-along-few : (k : ℕ) → k ≤ t .left → cropNeed s (t .number + k) ≤ 3000
+  need-along-few k h = rw (← (on-number s (t .number + k))) (need-le s _ v (along-on k h .of))
+
+-- The sum over k days by what is carried.
+unfoldable pub summed : SeasonDay → ℕ → ℕ
+summed t zero = 0
+summed t (suc k) = summed t k + scaled (t .top + suc k * t .up - suc k * t .down) (t .inverse)
+
+-- i days are summed, and `top` is that of the last of them.
+pub record Summing (t : SeasonDay) (days top sum i : ℕ) : Type 0 where
+  pub few : i ≤ days
+  pub is : top + i * t .down ≡ t .top + i * t .up
+  pub total : sum ≡ summed t i
+
+pub summing-start : (t : SeasonDay) (days : ℕ) → Summing t days (t .top) 0 0
+unfolding summed
+summing-start t days = record { few = omega arith; is = omega arith; total = refl }
+
+module _ {s : Season} {t : SeasonDay} (v : Valid s) (o : OnDay s t) where
+  pub summed-is : (k : ℕ) → k ≤ t .left → summed t k ≡ needsAfter s (t .number) k
+  unfolding summed needsAfter
+  summed-is zero h = refl
+  summed-is (suc k) h =
+      let top : t .top + suc k * t .up - suc k * t .down + suc k * t .down ≡ t .top + suc k * t .up = omega (arith, along-top v o (suc k) h) in
+      let n = need-along v o (suc k) (t .top + suc k * t .up - suc k * t .down) h top in
+      omega (arith, summed-is k (omega arith), n)
+
+  pub summed-few : (k : ℕ) → k ≤ t .left → summed t k ≤ 3000 * k
+  unfolding summed
+  summed-few zero h = omega arith
+  summed-few (suc k) h =
+      let top : t .top + suc k * t .up - suc k * t .down + suc k * t .down ≡ t .top + suc k * t .up = omega (arith, along-top v o (suc k) h) in
+      omega (arith, summed-few k (omega arith), need-along v o (suc k) _ h top, need-along-few v o (suc k) h)
+
+  -- Where the coefficient stays, so does the need.
+  pub needs-flat : t .up ≡ t .down → (k : ℕ) → k ≤ t .left → k * scaled (t .top) (t .inverse) ≡ needsAfter s (t .number) k
+  unfolding needsAfter
+  needs-flat e zero h = omega arith
+  needs-flat e (suc k) h =
+      let x = scaled (t .top) (t .inverse) in
+      omega (arith, needs-flat e k (omega arith), suc-mul k x, need-along v o (suc k) (t .top) h (ap (λ (n : ℕ). t .top + suc k * n) (sym e)))
+
+  module _ {days top sum i : ℕ} (w : Summing t days top sum i) (h : days ≤ t .left) (l : i < days) where
+    -- One day more: the sum does not go below zero.
+    pub summing-top : (top + t .up ≤ 69010000) × (t .down ≤ top + t .up)
+    summing-top =
+        let g = grows-by v o (i + 1) (omega arith) in
+        (omega (arith, w .is, g, add-mul i 1 (t .up), top-small v o), omega (arith, w .is, along-top v o (i + 1) (omega arith), add-mul i 1 (t .up), add-mul i 1 (t .down)))
+
+    next-top : top + t .up - t .down + (i + 1) * t .down ≡ t .top + (i + 1) * t .up
+    next-top = omega (arith, w .is, summing-top, add-mul i 1 (t .up), add-mul i 1 (t .down))
+
+    pub summing-fits : (top + t .up - t .down) * t .inverse < 18446744073709551616
+    summing-fits = need-along-fits v o (i + 1) _ (omega arith) next-top
+
+    pub summing-small : sum + scaled (top + t .up - t .down) (t .inverse) ≤ 93000
+    summing-small =
+        omega (arith, w .total, summed-few i (omega arith), need-along v o (i + 1) _ (omega arith) next-top, need-along-few v o (i + 1) (omega arith), left-few v o)
+
+    pub summing-more : {sum′ : ℕ} → sum′ ≡ sum + scaled (top + t .up - t .down) (t .inverse) → Summing t days (top + t .up - t .down) sum′ (i + 1)
+    unfolding summed
+    summing-more {sum′} e =
+        let same : t .top + (i + 1) * t .up - (i + 1) * t .down ≡ top + t .up - t .down = omega (arith, next-top) in
+        let a = add-one i in
+        record {
+          few = omega arith;
+          is = next-top;
+          total = rw (add-one, e, w .total) (ap (λ (x : ℕ). summed t i + scaled x (t .inverse)) (sym (ap (λ (n : ℕ). t .top + n * t .up - n * t .down) (sym a) ∙ same)));
+        }
