@@ -12,6 +12,7 @@ pub mod Beginnings
 pub mod Trims
 pub mod Sums
 pub mod Walking
+pub mod Entering
 pub mod Answers
 pub mod Matching
 pub mod Numbering
