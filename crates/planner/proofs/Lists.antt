@@ -1,11 +1,11 @@
 -- Lists of depths: how many are above 0, their sum, and runs of zeros.
 use mathlib.Core.Path.{_≡_, refl, sym, _∙_, ap}
 use mathlib.Core.List.{List, [], _∷_, _++_}
-use Prim.Native.Nat.{ℕ, zero, suc, _+_, _-_, _≤_, _<_}
+use Prim.Native.Nat.{ℕ, zero, suc, _+_, _≤_, _<_}
 use native.Mathlib.Numerals.{add-one}
 use native.Mathlib.Omega.{arith}
 use lib.ListN.{length, length-append, length-drop, getD, take, drop, set, replicate, take-append-drop}
-use lib.Seq.{length-take-le, append-snoc, drop-cons, set-at, take-suc, take-suc-set, take-add, drop-set-lt, drop-drop, take-length}
+use lib.Seq.{length-take-le, append-snoc, drop-cons, set-at, take-suc, take-length}
 use Rattle.planner.specs.Choices.{irrigated}
 use Rattle.planner.specs.Answer.{sum}
 
@@ -46,21 +46,6 @@ pub take-zeros : (m n : ℕ) → m ≤ n → take m (replicate {A = ℕ} n 0) �
 take-zeros zero n h = refl
 take-zeros (suc m) zero h = absurd (omega arith)
 take-zeros (suc m) (suc n) h = ap (λ xs. 0 ∷ xs) (take-zeros m n (omega arith))
-
-pub drop-zeros : (m n : ℕ) → drop m (replicate {A = ℕ} n 0) ≡ replicate (n - m) 0
-drop-zeros zero n = let z : n ≡ n - 0 = omega arith in ap (λ k. replicate {A = ℕ} k 0) z
-drop-zeros (suc m) zero = let z : 0 ≡ 0 - suc m = omega arith in ap (λ k. replicate {A = ℕ} k 0) z
-drop-zeros (suc m) (suc n) = drop-zeros m n ∙ (let z : n - m ≡ suc n - suc m = omega arith in ap (λ k. replicate {A = ℕ} k 0) z)
-
--- depth x is put after j of the zeros that end l
-pub take-put : (l : List ℕ) (i j k x : ℕ) → drop i l ≡ replicate k 0 → j < k → i + j < length l
-    → take (suc (i + j)) (set l (i + j) x) ≡ take i l ++ replicate j 0 ++ (x ∷ [])
-take-put l i j k x e h room = rw (take-suc-set l (i + j) x room, take-add i j l, e, take-zeros j k (omega arith))
-
-pub drop-put : (l : List ℕ) (i j k x : ℕ) → drop i l ≡ replicate k 0 → drop (suc (i + j)) (set l (i + j) x) ≡ replicate (k - suc j) 0
-drop-put l i j k x e =
-    let count : suc (i + j) ≡ i + suc j = omega arith in
-    drop-set-lt (suc (i + j)) l (i + j) x (omega arith) ∙ rw (count, ← drop-drop (suc j) i l, e) (drop-zeros (suc j) k)
 
 -- the first i of l are copied to d
 abbrev pub copied : List ℕ → List ℕ → ℕ → List ℕ

@@ -1,51 +1,46 @@
--- The planner of specs/Plan.antt, walk by walk, makes the plan of proofs/Days.antt; and a walk, a day at a time.
+-- The planner of specs/Plan.antt, walk by walk, makes the plan of proofs/Days.antt.
 use Prim.Native.Nat.{ℕ, suc, zero, _+_, _-_, _≤_, _<_}
 use mathlib.Core.Path.{_≡_, refl, ap}
 use mathlib.Core.Bool.{Bool, true, false}
 use native.Mathlib.Omega.{arith}
 use lib.Dec.{leb}
 use lib.ListN.{replicate}
-use borrow.Author.Tests.{le-leb, lt-leb}
 use Rattle.planner.specs.Choices.{Outlook, plannedDay}
-use Rattle.planner.specs.Plan.{Turn, never, on, Walk, held, fails, latest, orElse, turnAt, ending, walk, watered, Plan, depths, refused, after, pad, onWalk, byWalks, plan}
+use Rattle.planner.specs.Plan.{never, on, Walk, held, fails, orElse, turnAt, ending, walk, watered, Plan, depths, refused, after, pad, onWalk, byWalks, plan}
 use Rattle.planner.proofs.Days.{Draft, planned, dry, settled, before, withDepth, backAt, draft, drafted, Right, draft-right}
 
-settled-before : (x : ℕ) (r : Draft) → settled (before x r) ≡ after x (settled r)
+pub settled-before : (x : ℕ) (r : Draft) → settled (before x r) ≡ after x (settled r)
 unfolding settled before
 settled-before x (planned p) = refl
 settled-before x (dry f) = refl
 
+-- day t ends at E, and `rest` plans the days after it
+unfoldable pub endsAt : Outlook → ℕ → (ℕ → Draft) → ℕ → Draft
+endsAt o t rest E = elim (leb E (o .ready t)) [ true ↦ rest E | false ↦ dry t ]
+
+pub withDepth-ends : (o : Outlook) (d D : ℕ) (rest : ℕ → Draft) (x : ℕ) → withDepth o d D rest x ≡ before x (endsAt o d rest (plannedDay o d D x))
+unfolding withDepth endsAt before
+withDepth-ends o d D rest x = go (leb end (o .ready d))
+  where
+    end : ℕ
+    end = plannedDay o d D x
+
+    go : (b : Bool) → _≡_ {A = Draft} (elim b [ true ↦ before x (rest end) | false ↦ dry d ]) (before x (elim b [ true ↦ rest end | false ↦ dry d ]))
+    go true = refl
+    go false = refl
+
 module _ (o : Outlook) (e : ℕ) where
-  -- day t ends at E, and `rest` plans the days after it; and the same with depth x on day t
-  unfoldable pub endsAt : ℕ → (ℕ → Draft) → ℕ → Draft
-  endsAt t rest E = elim (leb E (o .ready t)) [ true ↦ rest E | false ↦ dry t ]
-
-  endsWith : ℕ → ℕ → (ℕ → Draft) → ℕ → Draft
-  endsWith t x rest E = elim (leb E (o .ready t)) [ true ↦ before x (rest E) | false ↦ dry t ]
-
-  withDepth-ends : (d D : ℕ) (rest : ℕ → Draft) (x : ℕ) → withDepth o d D rest x ≡ endsWith d x rest (plannedDay o d D x)
-  unfolding withDepth endsWith
-  withDepth-ends d D rest x = refl
-
-  settled-ends : (t x : ℕ) (rest : ℕ → Draft) (E : ℕ) → settled (endsWith t x rest E) ≡ after x (settled (endsAt t rest E))
-  unfolding settled endsAt endsWith
-  settled-ends t x rest E = go (leb E (o .ready t))
-    where
-      go : (b : Bool) → settled (elim b [ true ↦ before x (rest E) | false ↦ dry t ]) ≡ after x (settled (elim b [ true ↦ rest E | false ↦ dry t ]))
-      go true = settled-before x (rest E)
-      go false = refl
-
   -- the days from t on, once t is watered
-  unfoldable pub restarted : ℕ → Draft
-  restarted t = endsAt t (draft o (e - suc t) (suc t)) (o .need t)
+  unfoldable restarted : ℕ → Draft
+  restarted t = endsAt o t (draft o (e - suc t) (suc t)) (o .need t)
 
   -- the plan of the days from d on, where the walk failed on f, the latest turn day is t and x its depth
-  unfoldable pub filled : ℕ → ℕ → ℕ → ℕ → Plan
+  unfoldable filled : ℕ → ℕ → ℕ → ℕ → Plan
   filled d f t zero = refused f
   filled d f t (suc x) = pad (t - d) (after (suc x) (settled (restarted t)))
 
   -- a walk from day d, whose latest turn day is not before a, against the draft
-  abbrev pub Follows : ℕ → ℕ → Walk → Draft → Type 0
+  abbrev Follows : ℕ → ℕ → Walk → Draft → Type 0
   Follows a d held r = r ≡ planned (depths (replicate (e - d) 0))
   Follows a d (fails f never) r = r ≡ dry f
   Follows a d (fails f (on t x)) r = (a ≤ t) × (t < e) × (r ≡ planned (filled d f t x))
@@ -66,7 +61,7 @@ module _ (o : Outlook) (e : ℕ) where
       let here : d - d ≡ 0 = omega arith in
       let left : e - suc d ≡ k = omega arith in
       let end : plannedDay o d D (suc x) ≡ o .need d = omega arith in
-      rw (withDepth-ends, here, left, end) (settled-ends d (suc x) (draft o k (suc d)) (o .need d))
+      rw (withDepth-ends, here, left, end) (settled-before (suc x) (endsAt o d (draft o k (suc d)) (o .need d)))
 
   follows-back : (k d D : ℕ) → suc k + d ≡ e → (w : Walk) (r : Draft) → Follows (suc d) d w r
       → Follows d d (orElse (turnAt o d D) w) (backAt o d D (draft o k (suc d)) r)
@@ -99,14 +94,14 @@ module _ (o : Outlook) (e : ℕ) where
       go true = follows-before d (omega arith) (walk o k (suc d) end) (draft o k (suc d) end) (h end)
       go false = refl
 
-  pub follows : (k d D : ℕ) → k + d ≡ e → Follows d d (walk o k d D) (draft o k d D)
+  follows : (k d D : ℕ) → k + d ≡ e → Follows d d (walk o k d D) (draft o k d D)
   unfolding walk draft
   follows zero d D l = let n : e - d ≡ 0 = omega arith in rw n
   follows (suc k) d D l =
       follows-back k d D l (ending o d (plannedDay o d D 0) (walk o k (suc d))) (withDepth o d D (draft o k (suc d)) 0) (follows-dry k d D l (λ E. follows k (suc d) E (omega arith)))
 
   -- the walk restarts at the watered day
-  pub follows-watered : (t : ℕ) → t < e → Follows (suc t) (suc t) (watered o (e - suc t) t) (restarted t)
+  follows-watered : (t : ℕ) → t < e → Follows (suc t) (suc t) (watered o (e - suc t) t) (restarted t)
   unfolding watered ending restarted endsAt
   follows-watered t l = go (leb (o .need t) (o .ready t))
     where
@@ -136,33 +131,3 @@ by-walks o k d D = by-walks-from o (k + d) (suc k) d (walk o k d D) (draft o k d
 
 pub walks-right : (o : Outlook) (k d D : ℕ) → Right o k d D (plan o k d D)
 walks-right o k d D = rw by-walks (draft-right o k d D)
-
--- For a loop that carries the latest turn day s: one more day of a walk.
-or-else-latest : (s : Turn) (b : Bool) (d x : ℕ) (w : Walk) → orElse s (orElse (latest never b d x) w) ≡ orElse (latest s b d x) w
-or-else-latest s b d x held = refl
-or-else-latest s false d x (fails f never) = refl
-or-else-latest s true d x (fails f never) = refl
-or-else-latest s b d x (fails f (on t y)) = refl
-
-pub or-else-never : (w : Walk) → orElse never w ≡ w
-or-else-never held = refl
-or-else-never (fails f never) = refl
-or-else-never (fails f (on t x)) = refl
-
-pub walk-holds : (o : Outlook) (k d D E : ℕ) (s : Turn) → E ≡ plannedDay o d D 0 → E ≤ o .ready d
-    → orElse s (walk o (suc k) d D) ≡ orElse (latest s (o .turn d) d (D - o .water d)) (walk o k (suc d) E)
-unfolding walk ending
-walk-holds o k d D E s e h = rw (e, or-else-latest, ending, le-leb (plannedDay o d D 0) (o .ready d) (rw e at h))
-
-pub walk-fails : (o : Outlook) (k d D E : ℕ) (s : Turn) → E ≡ plannedDay o d D 0 → o .ready d < E
-    → orElse s (walk o (suc k) d D) ≡ fails d (latest s (o .turn d) d (D - o .water d))
-unfolding walk ending
-walk-fails o k d D E s e h = rw (or-else-latest, ending, lt-leb (plannedDay o d D 0) (o .ready d) (rw e at h))
-
-pub watered-holds : (o : Outlook) (k t E : ℕ) → E ≡ o .need t → E ≤ o .ready t → watered o k t ≡ walk o k (suc t) E
-unfolding watered ending
-watered-holds o k t E e h = rw (e, watered, ending, le-leb (o .need t) (o .ready t) (rw e at h))
-
-pub watered-fails : (o : Outlook) (k t E : ℕ) → E ≡ o .need t → o .ready t < E → watered o k t ≡ fails t never
-unfolding watered ending
-watered-fails o k t E e h = rw (watered, ending, lt-leb (o .need t) (o .ready t) (rw e at h))

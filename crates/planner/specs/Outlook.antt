@@ -1,8 +1,8 @@
 -- Document 01, 'The plan': what planning reads of a season and its ledger. `today` is the open day, `waiting` the water that waits on it.
 use mathlib.Core.Bool.{cond}
-use Prim.Native.Nat.{ℕ, _+_, _-_, _≤_}
+use Prim.Native.Nat.{ℕ, _+_, _-_}
 use lib.Dec.{eqb}
-use Rattle.season.specs.Sheet.{Valid, seasonDays, isTurn}
+use Rattle.season.specs.Sheet.{seasonDays, isTurn}
 use Rattle.season.specs.Day.{cropNeed, rainOn, readyOn}
 use Rattle.season.specs.declared.Season.{Season}
 use Rattle.planner.specs.declared.Look.{Look}
@@ -25,10 +25,3 @@ lookAt o i = record { water = o .water i; need = o .need i; ready = o .ready i; 
 -- How many days are left from day d on.
 abbrev pub daysLeft : Season → ℕ → ℕ
 daysLeft s d = seasonDays s + 1 - d
-
--- What a walk needs: a day of the season, or the one after it, and a depletion as the ledger has it.
-pub record Going (s : Season) (d D : ℕ) : Type 0 where
-  pub valid : Valid s
-  pub from : 1 ≤ d
-  pub to : d ≤ seasonDays s + 1
-  pub depletion : D ≤ 120000

@@ -10,11 +10,11 @@ ghost use Prim.Native.Nat.{_+_, _-_, _%_, _≤_, _<_};
 ghost use lib.ListN.{length, drop, replicate};
 ghost use lib.Dec.{eqb};
 ghost use Rattle.season.specs.Sheet.{Valid, DayOf};
-ghost use Rattle.season.specs.Day.{rainOn, dayOf, OnDay};
+ghost use Rattle.season.specs.Day.{rainOn, OnDay};
 ghost use Rattle.planner.specs.Choices.{irrigated};
-ghost use Rattle.planner.specs.Plan.{walk, watered, plan};
-ghost use Rattle.planner.specs.Outlook.{outlook, lookAt, daysLeft, Going};
-ghost use Rattle.planner.specs.Carried.{turnIn, walkIn};
+ghost use Rattle.planner.specs.Plan.{plan};
+ghost use Rattle.planner.specs.Outlook.{outlook, lookAt, daysLeft};
+ghost use Rattle.planner.specs.Carried.{turnIn, passDay};
 ghost use Rattle.planner.specs.Answer.{sum, netOf, settles, answerTo, answer};
 
 // A plan is made: how many depths are above 0, and the totals. Or it is refused: document 01's number, and the number returned with it.
@@ -31,11 +31,13 @@ struct Look {
     turn: bool,
 }
 
-// Where a walk comes to: every day holds, or the first failing day, the latest turn day that is not after it, and the depth that brings
-// max(0, D − w) to zero that day. Where there is no turn day the depth is 0.
-enum Walked {
-    Held,
-    Fails(u32, SeasonDay, u32),
+// What the pass over the days carries: the depletion, and what it would be had the latest turn day since the last watering been filled;
+// that day, and the depth that fills it. Where there is no such day, or nothing to fill on it, the two are equal.
+struct Track {
+    depletion: u32,
+    filled: u32,
+    turn: u32,
+    depth: u32,
 }
 
 // The depths are made, or the day that no choice holds.
@@ -61,7 +63,7 @@ fn look_on(s: Season, today: u32, waiting: u32, t: SeasonDay, rain: u32, week: u
     ensures { λ r. ⌜ r ≡ lookAt (outlook s today waiting) (t .number) ⌝ }
 {
     let need = season::crop_need(s, t);
-    let ready = season::ready_water(s, t.number);
+    let ready = season::ready_on(s, t);
     Look {
         water: water_on(today, waiting, t.number, rain),
         need: need,
@@ -100,60 +102,36 @@ fn rain_before(day: u32, to: u32) -> u32
     if day == 1 { 0 } else { to }
 }
 
-// ---- walks
-
-// The days from `from`, which starts at `start`, to the season's end, with no watering. The month's planned rain and the day of the
-// week are carried along.
-fn walk_on(s: Season, today: u32, waiting: u32, from: SeasonDay, start: u32) -> Walked
-    requires { ⌜ Going s (from .number) start ⌝ }
-    requires { ⌜ from ≡ dayOf s (from .number) ⌝ }
-    ensures { λ r. ⌜ r ≡ walkIn s (from .number) (walk (outlook s today waiting) (daysLeft s (from .number)) (from .number) start) ⌝ }
-{
-    let last = season::season_days(s);
-    let mut t = from;
-    let mut before = season::rain_to(from.effective, from.day - 1, from.length);
-    let mut week = (from.number - 1) % 7;
-    let mut depletion = start;
-    let mut turn = from;
-    let mut depth = 0;
-    while t.number <= last {
-        let to = season::rain_to(t.effective, t.day, t.length);
-        let look = look_on(s, today, waiting, t, to - before, week);
-        let left = season::less(depletion, look.water);
-        depletion = planned_day(left, look.need);
-        if look.turn {
-            turn = t;
-            depth = left;
-        }
-        if look.ready < depletion {
-            return Walked::Fails(t.number, turn, depth);
-        }
-        t = season::next_day(s, t);
-        before = rain_before(t.day, to);
-        week = week_after(week);
-    }
-    Walked::Held
-}
-
-// The walk once t is watered: t ends at its need, and turn days count from the day after.
-fn walk_watered(s: Season, today: u32, waiting: u32, t: SeasonDay) -> Walked
-    requires { ⌜ Valid s ⌝ }
-    requires { ⌜ OnDay s t ⌝ }
-    ensures { λ r. ⌜ r ≡ walkIn s (t .number + 1) (watered (outlook s today waiting) (daysLeft s (t .number + 1)) (t .number)) ⌝ }
-{
-    let next = season::next_day(s, t);
-    let end = planned_day(0, season::crop_need(s, t));
-    if season::ready_water(s, t.number) < end {
-        return Walked::Fails(t.number, next, 0);
-    }
-    walk_on(s, today, waiting, next, end)
-}
-
 // ---- the depths
 
-// The depths of the days from `today` on, where zeros stand at first: walk on to the first failing day, water its latest turn day, and
-// walk on from there. At most days + 7 × waterings day steps: turn days come round every seven days, so that a failing day is at most six
-// days after its turn day, and a watering has at most seven days stepped again.
+// A day is passed with no watering. A turn day is the one to fill from then on: filled, it has nothing left before it uses its need.
+fn pass_day(track: Track, look: Look, day: u32) -> Track
+    requires { ⌜ track .filled ≤ track .depletion ⌝ }
+    requires { ⌜ track .depletion + look .need < 4294967296 ⌝ }
+    ensures { λ r. ⌜ r ≡ passDay track look day ⌝ }
+{
+    let left = season::less(track.depletion, look.water);
+    let depletion = planned_day(left, look.need);
+    if look.turn {
+        return Track {
+            depletion: depletion,
+            filled: planned_day(0, look.need),
+            turn: day,
+            depth: left,
+        };
+    }
+    let spared = season::less(track.filled, look.water);
+    Track {
+        depletion: depletion,
+        filled: planned_day(spared, look.need),
+        turn: track.turn,
+        depth: track.depth,
+    }
+}
+
+// The depths of the days from `today` on, where zeros stand at first, in one pass. Where a day fails, the latest turn day since the last
+// watering is filled, and the pass goes on as if it had been all along; where the day fails then too, no choice holds it. The month's
+// planned rain and the day of the week are carried along. The season ends where a month or a stage does, and only there is its end tested.
 fn draw_depths(s: Season, today: u32, waiting: u32, start: u32, depths: &mut [u32]) -> Drawn
     requires { ⌜ Valid s ⌝ }
     requires { ⌜ DayOf s today ⌝ }
@@ -161,17 +139,42 @@ fn draw_depths(s: Season, today: u32, waiting: u32, start: u32, depths: &mut [u3
     requires { ⌜ now depths ≡ replicate (daysLeft s today) 0 ⌝ }
     ensures { λ r. ⌜ settles r (now (depths .exit)) ≡ plan (outlook s today waiting) (daysLeft s today) today start ⌝ }
 {
-    let mut walk = walk_on(s, today, waiting, season::day_of(s, today), start);
+    let last = season::season_days(s);
+    // A struct that a call writes stays in memory: t is a copy.
+    let first = season::day_of(s, today);
+    let mut t = first;
+    let mut before = season::rain_to(s, t, t.day - 1);
+    let mut week = (today - 1) % 7;
+    let mut track = Track {
+        depletion: start,
+        filled: start,
+        turn: today,
+        depth: 0,
+    };
     loop {
-        let Walked::Fails(failing, t, depth) = walk else {
-            return Drawn::Whole;
-        };
-        if depth == 0 {
-            return Drawn::Lost(failing);
+        let to = season::rain_to(s, t, t.day);
+        let look = look_on(s, today, waiting, t, to - before, week);
+        track = pass_day(track, look, t.number);
+        if look.ready < track.depletion {
+            if look.ready < track.filled {
+                return Drawn::Lost(t.number);
+            }
+            let place = (track.turn - today) as usize;
+            depths[place] = track.depth;
+            track.depletion = track.filled;
         }
-        let place = (t.number - today) as usize;
-        depths[place] = depth;
-        walk = walk_watered(s, today, waiting, t);
+        week = week_after(week);
+        if 0 < t.left {
+            t = season::further_on(s, t, 1);
+            before = to;
+            continue;
+        }
+        if last <= t.number {
+            return Drawn::Whole;
+        }
+        let next = season::next_day(s, t);
+        t = next;
+        before = rain_before(t.day, to);
     }
 }
 

@@ -7,8 +7,8 @@ use Rattle.planner.proofs.look_on.Tie as tie
 crop-need-requires : tie.Need-crop-need-requires
 crop-need-requires c κs = search needs
 
-ready-water-requires : tie.Need-ready-water-requires
-ready-water-requires c κs = search needs
+ready-on-requires : tie.Need-ready-on-requires
+ready-on-requires c κs = search needs
 
 water-on-requires : tie.Need-water-on-requires
 water-on-requires c κs = search needs
@@ -22,4 +22,4 @@ returns c = cc
 pub look-on-spec : {M : Type 1} → statement M
 look-on-spec =
     tie.close
-    (tie.spec crop-need-requires ready-water-requires water-on-requires turn-in-requires returns)
+    (tie.spec crop-need-requires ready-on-requires water-on-requires turn-in-requires returns)
