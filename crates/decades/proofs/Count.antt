@@ -12,10 +12,10 @@ use Rattle.season.specs.declared.Season.{Season}
 use Rattle.season.specs.declared.Date.{Date}
 use Rattle.season.specs.declared.SeasonDay.{SeasonDay}
 use Rattle.season.specs.Sheet.{Valid, seasonDays}
-use Rattle.season.specs.Calendar.{dateIs, daysOn}
+use Rattle.season.specs.Calendar.{dateIs, daysOn, Proper}
 use Rattle.season.specs.Day.{dateOf, dayOf}
 use Rattle.season.proofs.Whole.{by-order}
-use Rattle.season.proofs.Calendar.{Proper, days-high}
+use Rattle.season.proofs.Calendar.{days-high}
 use Rattle.season.proofs.Bounds.{date-proper}
 use Rattle.season.proofs.Days.{date-next}
 use Rattle.decades.specs.declared.Row.{Row}

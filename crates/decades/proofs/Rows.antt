@@ -1,9 +1,9 @@
 -- The walk over the days: the row that is open, the rows that are closed, and the buffer that holds these.
-use mathlib.Core.Path.{_≡_, refl, sym, _∙_, ap}
+use mathlib.Core.Path.{_≡_, refl, sym, _∙_, ap, subst}
 use mathlib.Core.Bool.{Bool, true, false}
 use mathlib.Core.List.{List, [], _∷_, _++_}
-use Prim.Native.Nat.{ℕ, suc, _+_, _-_, _*_, _<_, _≤_}
-use native.Mathlib.Nat.{le-refl, le-trans}
+use Prim.Native.Nat.{ℕ, zero, suc, _+_, _-_, _*_, _<_, _≤_}
+use native.Mathlib.Nat.{le-refl, le-trans, add-assoc}
 use native.Mathlib.Numerals.{add-one}
 use native.Mathlib.Decide.{le-ind}
 use native.Mathlib.Omega.{arith}
@@ -15,14 +15,15 @@ use Rattle.season.specs.declared.SeasonDay.{SeasonDay}
 use Rattle.season.specs.Calendar.{monthAfter}
 use Rattle.season.specs.Sheet.{Valid, DayOf, seasonDays}
 use Rattle.season.specs.Rules.{rainTo}
-use Rattle.season.specs.Day.{cropNeed, rainOn, dayOf, OnDay}
+use Rattle.season.specs.Day.{cropNeed, needsAfter, rainOn, dayOf, OnDay}
 use Rattle.season.proofs.Whole.{by-order}
 use Rattle.season.proofs.Bounds.{need-le}
-use Rattle.season.proofs.Days.{number-is, on-day, day-proper, day-small, effective-at-most, rain-grows, next-inside, next-month}
+use Rattle.season.proofs.Days.{OnInMonth, number-is, on-day, day-proper, rain-grows, next-inside, next-month}
+use Rattle.season.proofs.Along.{along, along-on}
 use Rattle.decades.specs.declared.Row.{Row}
 use Rattle.decades.specs.Table.{decadeOf, dayRow, sameDecade, joined, withDay, rowsTo, rowCount, six, flat, table}
-use Rattle.decades.specs.OpenRow.{rowOf, RainDay}
-use Rattle.decades.proofs.Year.{both-same}
+use Rattle.decades.specs.OpenRow.{rowOf, daysAlike}
+use Rattle.decades.proofs.Year.{decade-stays, both-same, same-both}
 use Rattle.decades.proofs.Count.{rows-at-most}
 
 -- ---- the rows of the definition
@@ -78,11 +79,6 @@ put-more e rs r l h =
 
 -- ---- a day of the season
 
-pub rain-day : {s : Season} {t : SeasonDay} → Valid s → OnDay s t → RainDay t
-rain-day v o =
-    let d = day-small v o in
-    record { effective = effective-at-most v o; from = d .0; to = d .1; month = d .2 }
-
 pub first-day : {s : Season} → Valid s → DayOf s 1
 first-day v = record { from = omega arith; to = omega (arith, v .ranges .initial .low≤) }
 
@@ -98,18 +94,12 @@ other-month m h e =
     (λ l. let n : monthAfter m ≡ 1 = rw (le-ltb m 12 l) in omega arith)
     (λ l. let n : monthAfter m ≡ m + 1 = rw (lt-ltb m 12 l) in omega arith)
 
--- In one month the next day is a day on, and its month's numbers are the same.
-pub record DayOn (t u : SeasonDay) : Type 0 where
-  pub day : u .day ≡ t .day + 1
-  pub length : u .length ≡ t .length
-  pub effective : u .effective ≡ t .effective
-
-month-on : {s : Season} {t u : SeasonDay} → Valid s → OnDay s t → u ≡ dayOf s (t .number + 1) → t .month ≡ u .month → DayOn t u
+-- Where the month stays, its numbers do.
+month-on : {s : Season} {t u : SeasonDay} → Valid s → OnDay s t → u ≡ dayOf s (t .number + 1) → t .month ≡ u .month → OnInMonth t u
 month-on {s} {t} {u} v o e m =
     by-order (t .day) (t .length)
     (λ h. absurd (other-month (t .month) (day-proper v o .month-high) (m ∙ ap (λ (d : SeasonDay). d .month) (e ∙ sym (next-month v o h)))))
-    (λ h. let p = e ∙ sym (next-inside v o h) in
-    record { day = ap (λ (d : SeasonDay). d .day) p; length = ap (λ (d : SeasonDay). d .length) p; effective = ap (λ (d : SeasonDay). d .effective) p })
+    (λ h. rw e (next-inside v o h))
 
 -- ---- the walk
 
@@ -128,7 +118,7 @@ pub record Rows (s : Season) (n : ℕ) (t : SeasonDay) (at need before : ℕ) : 
   pub least : before ≤ rainTo (t .effective) (t .day) (t .length)
   pub small : need ≤ t .number * 3000
 
-rain-back : {t u : SeasonDay} → DayOn t u → rainTo (u .effective) (u .day - 1) (u .length) ≡ rainTo (t .effective) (t .day) (t .length)
+rain-back : {t u : SeasonDay} → OnInMonth t u → rainTo (u .effective) (u .day - 1) (u .length) ≡ rainTo (t .effective) (t .day) (t .length)
 rain-back {t} {u} o =
     let d : u .day - 1 ≡ t .day = omega (arith, o .day) in
     rw (d, o .length, o .effective)
@@ -154,8 +144,8 @@ rows-start {s} {n} {need} {before} {t} v e d nd b =
 
 module _ {s : Season} {n at need before : ℕ} {t : SeasonDay} (w : Rows s n t at need before) where
   -- The day after, where there is one.
-  pub next-of : t .number < n → DayOf s (t .number + 1)
-  next-of more = record { from = omega arith; to = omega (arith, w .season) }
+  pub next-on : {u : SeasonDay} → t .number < n → u ≡ dayOf s (t .number + 1) → OnDay s u
+  next-on {u} h e = on-day s u (t .number + 1) (record { from = omega arith; to = omega (arith, w .season) }) e
 
   pub rows-many : (length (rowsTo s (t .number)) * 6 ≡ at + 6) × (at + 6 ≤ rowCount s * 6) × (at + 6 ≤ 222)
   rows-many =
@@ -168,18 +158,15 @@ module _ {s : Season} {n at need before : ℕ} {t : SeasonDay} (w : Rows s n t a
   need-small = omega (arith, w .small, w .on .of .to, w .valid .year)
 
   module _ {more : ℕ} {u : SeasonDay} (h : t .number < n) (e : u ≡ dayOf s (t .number + 1)) (m : more ≡ cropNeed s (u .number)) where
-    pub next-on : OnDay s u
-    next-on = on-day s u (t .number + 1) (next-of h) e
-
     next-number : u .number ≡ t .number + 1
     next-number = number-is s u (t .number + 1) e
 
     pub more-at-most : more ≤ 3000
-    more-at-most = rw m (need-le s (u .number) (w .valid) (next-on .of))
+    more-at-most = rw m (need-le s (u .number) (w .valid) (next-on h e .of))
 
     -- The day by itself.
     alone : dayRow s (t .number + 1) ≡ rowOf u more (rainTo (u .effective) (u .day - 1) (u .length))
-    alone = rw (← next-number, m) (day-row next-on)
+    alone = rw (← next-number, m) (day-row (next-on h e))
 
     -- The rows that are closed after it.
     rest-same : sameDecade (t .month) (decadeOf (t .day)) (u .month) (decadeOf (u .day)) ≡ true → rest (rowsTo s (t .number)) ≡ rest (rowsTo s (u .number))
@@ -194,14 +181,14 @@ module _ {s : Season} {n at need before : ℕ} {t : SeasonDay} (w : Rows s n t a
         let f = same-row s (t .number) _ _ _ (w .is) alone q in
         let same = both-same _ _ _ _ q in
         let on = month-on (w .valid) (w .on) e (same .0) in
-        let up = rain-grows (w .valid) next-on in
+        let up = rain-grows (w .valid) (next-on h e) in
         let back : rainTo (u .effective) (u .day - 1) (u .length) ≡ rainTo (t .effective) (t .day) (t .length) = rain-back on in
         let sum : (rainTo (t .effective) (t .day) (t .length) - before) + (rainTo (u .effective) (u .day) (u .length) - rainTo (u .effective) (u .day - 1) (u .length)) ≡ rainTo (u .effective) (u .day) (u .length) - before = rains (w .least) up back in
         let g : joined (rowOf t need before) (rowOf u more (rainTo (u .effective) (u .day - 1) (u .length))) ≡ rowOf u (need + more) before = (λ i. record { month = same .0 i; decade = same .1 i; need = need + more; rain = sum i }) in
         let k : rowsTo s (u .number) ≡ rowOf u (need + more) before ∷ rest (rowsTo s (t .number)) = ap (rowsTo s) next-number ∙ f ∙ ap (λ (r : Row). r ∷ rest (rowsTo s (t .number))) g in
         record {
           valid = w .valid;
-          on = next-on;
+          on = next-on h e;
           season = w .season;
           is = k ∙ ap (λ (qs : List Row). rowOf u (need + more) before ∷ rest qs) (sym k);
           count = w .count ∙ ap (λ (qs : List Row). length (rest qs) * 6) (sym k);
@@ -216,11 +203,11 @@ module _ {s : Season} {n at need before : ℕ} {t : SeasonDay} (w : Rows s n t a
         let f : rowsTo s (u .number) ≡ rowOf u more b ∷ rowOf t need before ∷ rest (rowsTo s (t .number)) = ap (rowsTo s) next-number ∙ rw r (new-row s (t .number) _ _ _ (w .is) alone q) in
         record {
           valid = w .valid;
-          on = next-on;
+          on = next-on h e;
           season = w .season;
           is = f ∙ ap (λ (qs : List Row). rowOf u more b ∷ rest qs) (sym f);
           count = omega (arith, w .count, ap (λ (qs : List Row). length (rest qs) * 6) f);
-          least = rw r (rain-grows (w .valid) next-on);
+          least = rw r (rain-grows (w .valid) (next-on h e));
           small = omega (arith, more-at-most, next-number);
         }
 
@@ -261,8 +248,8 @@ module _ {s : Season} {n at need before : ℕ} {t : SeasonDay} {l₀ l : List �
   filling-length = rw (f .buffer) (simp (length-append, length-drop, length-flat) (omega (arith, fits₀, f .rows .count)))
 
   -- What row_of and put_row require.
-  pub filling-rain : RainDay t × (before ≤ rainTo (t .effective) (t .day) (t .length))
-  filling-rain = (rain-day (f .rows .valid) (f .rows .on), f .rows .least)
+  pub filling-rain : Valid s × (OnDay s t × (before ≤ rainTo (t .effective) (t .day) (t .length)))
+  filling-rain = (f .rows .valid, (f .rows .on, f .rows .least))
 
   pub filling-room : {r : Row} → r ≡ rowOf t need before
       → (at + 6 ≤ length l) × ((1 ≤ s .efficiency) × (s .efficiency ≤ 100) × (r .need ≤ 40000000))
@@ -294,3 +281,27 @@ module _ {s : Season} {n at need before : ℕ} {t : SeasonDay} {l₀ l : List �
   pub filling-end : {r : Row} {l′ : List ℕ} → n ≤ t .number → r ≡ rowOf t need before → l′ ≡ sets l at (six (s .efficiency) r)
       → l′ ≡ table s ++ drop (rowCount s * 6) l₀
   filling-end h y g = put y g ∙ rw (rows-end (f .rows) h, rows-all (f .rows) h)
+
+module _ {s : Season} {n at need before : ℕ} {t : SeasonDay} {l₀ l : List ℕ} (f : Filling s n t at need before l₀ l) where
+  -- The k days after t join the open row, one by one.
+  filling-days : (k : ℕ) → k ≤ daysAlike t → Filling s n (dayOf s (t .number + k)) at (need + needsAfter s (t .number) k) before l₀ l
+  unfolding needsAfter
+  filling-days zero h =
+      let d : t ≡ dayOf s (t .number + 0) = f .rows .on .is ∙ ap (dayOf s) (omega arith) in
+      let x : need ≡ need + 0 = omega arith in
+      subst (λ (y : ℕ). Filling s n (dayOf s (t .number + 0)) at y before l₀ l) x (subst (λ (u : SeasonDay). Filling s n u at need before l₀ l) d f)
+  filling-days (suc k) h =
+      let v = f .rows .valid in
+      let o = f .rows .on in
+      let a = along v o k (omega arith) in
+      let b = along v o (suc k) (omega arith) in
+      let c = along-on v o (suc k) (omega arith) in
+      let d : dayOf s (t .number + suc k) ≡ dayOf s (dayOf s (t .number + k) .number + 1) = ap (dayOf s) (omega (arith, a .number)) in
+      let on : decadeOf (dayOf s (t .number + k) .day) ≡ decadeOf (dayOf s (t .number + suc k) .day) = rw (a .day, b .day) (decade-stays (t .day) k (omega arith) ∙ sym (decade-stays (t .day) (suc k) (omega arith))) in
+      let g = filling-same (filling-days k (omega arith)) (omega (arith, a .number, b .number, f .rows .season, c .of .to)) d (ap (cropNeed s) (sym (b .number))) (same-both _ _ _ _ (a .month ∙ sym (b .month)) on) in
+      subst (λ (y : ℕ). Filling s n (dayOf s (t .number + suc k)) at y before l₀ l) (add-assoc need (needsAfter s (t .number) k) (cropNeed s (t .number + suc k))) g
+
+  -- All the days after t that are of its month, stage and decade.
+  pub filling-along : {days more : ℕ} {u : SeasonDay} → days ≡ daysAlike t → more ≡ needsAfter s (t .number) days → u ≡ dayOf s (t .number + days)
+      → Filling s n u at (need + more) before l₀ l
+  filling-along {days} e m d = rw (m, d) (filling-days days (omega (arith, e)))

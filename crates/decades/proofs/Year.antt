@@ -9,11 +9,12 @@ use lib.Dec.{T, leb, eqb, leb→le, eqb→eq}
 use lib.ListN.{getD}
 use borrow.Author.Tests.{le-leb, lt-leb, lt-ltb, eq-eqb, ne-eqb, eqb-true}
 use Rattle.season.specs.declared.Date.{Date}
-use Rattle.season.specs.Calendar.{lengths, monthDays, dateIs, nextDay}
+use Rattle.season.specs.Calendar.{lengths, monthDays, dateIs, nextDay, Proper}
 use Rattle.season.proofs.Each.{both, both-left, both-right}
 use Rattle.season.proofs.Whole.{by-order}
-use Rattle.season.proofs.Calendar.{Proper, days-low, days-high, next-in, next-over}
+use Rattle.season.proofs.Calendar.{days-low, days-high, next-in, next-over}
 use Rattle.decades.specs.Table.{decadeOf, sameDecade}
+use Rattle.decades.specs.OpenRow.{decadeEnd}
 
 -- A test that antt computes at each number below n.
 abbrev upTo : (ℕ → Bool) → ℕ → Bool
@@ -80,6 +81,15 @@ decade-next d =
     (λ r. by-order 20 d (λ s. inr (third-decade (d + 1) r ∙ sym (ap (λ (k : ℕ). k + 1) (second-decade d q s))))
     (λ s. inl (third-decade (d + 1) r ∙ sym (third-decade d s))))))
 
+-- Up to its end a decade stays.
+pub decade-stays : (d k : ℕ) → k ≤ decadeEnd d - d → decadeOf (d + k) ≡ decadeOf d
+decade-stays d k h =
+    by-order 10 d
+    (λ p. let e : decadeEnd d ≡ 10 = rw (le-leb d 10 p) in first-decade (d + k) (omega arith) ∙ sym (first-decade d p))
+    (λ p. by-order 20 d
+    (λ q. let e : decadeEnd d ≡ 20 = rw (lt-leb d 10 p, le-leb d 20 q) in second-decade (d + k) (omega arith) (omega arith) ∙ sym (second-decade d p q))
+    (λ q. third-decade (d + k) (omega arith) ∙ sym (third-decade d q)))
+
 -- A later day of the year is of no earlier decade.
 pub year-order : (a b : Date) → Proper a → Proper b → yearDay a ≤ yearDay b → yearDecade a ≤ yearDecade b
 year-order a b p q h =
@@ -98,6 +108,9 @@ both-same month decade m d e = go (eqb month m) refl
     go : (b : Bool) → eqb month m ≡ b → (month ≡ m) × (decade ≡ d)
     go true h = (eqb-true _ _ h, eqb-true _ _ (rw h at e))
     go false h = absurd (true≢false (sym (rw h at e)))
+
+pub same-both : (month decade m d : ℕ) → month ≡ m → decade ≡ d → sameDecade month decade m d ≡ true
+same-both month decade m d e f = rw (eq-eqb month m e, eq-eqb decade d f)
 
 -- 1 where the second day is of another decade of the calendar than the first, and else 0.
 abbrev pub sameDates : Date → Date → Bool

@@ -9,8 +9,9 @@ ghost use lib.ListN.{length, drop};
 ghost use lib.Seq.{sets};
 ghost use Rattle.season.specs.Sheet.{Valid};
 ghost use Rattle.season.specs.Rules.{rainTo};
+ghost use Rattle.season.specs.Day.{OnDay};
 ghost use Rattle.decades.specs.Table.{decadeOf, sameDecade, six, rowCount, table, tabled};
-ghost use Rattle.decades.specs.OpenRow.{rowOf, RainDay};
+ghost use Rattle.decades.specs.OpenRow.{rowOf, decadeEnd, daysAlike};
 
 // How many rows the table has, or a refusal: its number, and the number returned with it.
 pub enum Tabled {
@@ -76,22 +77,42 @@ fn row_count(s: Season) -> usize
     (to + 1 - from) as usize
 }
 
+// The last day of a day's decade, in a month of 31 days.
+fn decade_end(day: u32) -> u32
+    ensures { λ r. ⌜ r ≡ decadeEnd day ⌝ }
+{
+    if day <= 10 {
+        return 10;
+    }
+    if day <= 20 { 20 } else { 31 }
+}
+
+// How many of the days after t are of its month, stage and decade.
+fn days_alike(t: SeasonDay) -> u32
+    ensures { λ r. ⌜ r ≡ daysAlike t ⌝ }
+{
+    let rest = season::less(decade_end(t.day), t.day);
+    if t.left <= rest { t.left } else { rest }
+}
+
 // What is planned of the month's rain before a day.
-fn rain_before(t: SeasonDay) -> u32
-    requires { ⌜ RainDay t ⌝ }
+fn rain_before(s: Season, t: SeasonDay) -> u32
+    requires { ⌜ Valid s ⌝ }
+    requires { ⌜ OnDay s t ⌝ }
     ensures { λ r. ⌜ r ≡ rainTo (t .effective) (t .day - 1) (t .length) ⌝ }
 {
-    season::rain_to(t.effective, t.day - 1, t.length)
+    season::rain_to(s, t, t.day - 1)
 }
 
 // The row that ends with day t: the sum of its needs, and the planned rain of the month up to t but for what came before the row.
-fn row_of(t: SeasonDay, need: u32, before: u32) -> Row
-    requires { ⌜ RainDay t ⌝ }
+fn row_of(s: Season, t: SeasonDay, need: u32, before: u32) -> Row
+    requires { ⌜ Valid s ⌝ }
+    requires { ⌜ OnDay s t ⌝ }
     requires { ⌜ before ≤ rainTo (t .effective) (t .day) (t .length) ⌝ }
     ensures { λ r. ⌜ r ≡ rowOf t need before ⌝ }
 {
     let decade = decade_of(t.day);
-    let rain = season::rain_to(t.effective, t.day, t.length) - before;
+    let rain = season::rain_to(s, t, t.day) - before;
     Row {
         month: t.month,
         decade,
@@ -116,31 +137,45 @@ fn put_row(out: &mut [u32], at: usize, efficiency: u32, row: Row)
     out[at + 5] = gross;
 }
 
-// The rows, from the start of a buffer that has room for them: one pass over the days. Numbers beyond the rows stay.
+// The rows, from the start of a buffer that has room for them: one pass over the days, by stretches of one month, stage and decade.
+// Numbers beyond the rows stay.
 fn fill_rows(s: Season, out: &mut [u32])
     requires { ⌜ Valid s ⌝ }
     requires { ⌜ rowCount s * 6 ≤ length (now out) ⌝ }
     ensures { λ _. ⌜ now (out .exit) ≡ table s ++ drop (rowCount s * 6) (now (out .entry)) ⌝ }
 {
     let n = season::season_days(s);
-    let mut t = season::day_of(s, 1);
+    // t is a copy: a struct that a call writes stays in memory.
+    let start = season::day_of(s, 1);
+    let mut t = start;
     let mut need = season::crop_need(s, t);
-    let mut before = rain_before(t);
+    let mut before = rain_before(s, t);
     let mut at: usize = 0;
-    while t.number < n {
-        let last = t;
-        t = season::next_day(s, last);
-        let more = season::crop_need(s, t);
-        if same_decade(last, t) {
-            need += more;
+    loop {
+        let days = days_alike(t);
+        need += season::need_after(s, t, days);
+        let last = season::further_on(s, t, days);
+        if n <= last.number {
+            put_row(out, at, s.efficiency, row_of(s, last, need, before));
+            return;
+        }
+        // The day after. Within a month and a stage there are sums only, made in place: a struct handed to a call stays in memory.
+        if 0 < last.left {
+            t = season::further_on(s, last, 1);
         } else {
-            put_row(out, at, s.efficiency, row_of(last, need, before));
+            let next = season::next_day(s, last);
+            t = next;
+        }
+        let first = season::crop_need(s, t);
+        if same_decade(last, t) {
+            need += first;
+        } else {
+            put_row(out, at, s.efficiency, row_of(s, last, need, before));
             at += 6;
-            need = more;
-            before = rain_before(t);
+            need = first;
+            before = rain_before(s, t);
         }
     }
-    put_row(out, at, s.efficiency, row_of(t, need, before));
 }
 
 // The decade table, six numbers a row, from the start of a lent buffer; refusal 15, before a number is written.
