@@ -107,8 +107,8 @@ pub fn season_day(s: Season, day: u32) -> DayNumbers
         kc: thousandths(kc.top, kc.bottom),
         date: t.month as u64 * 100 + t.day as u64,
         need: season::crop_need(s, t),
-        total: season::total_water(s, day),
-        ready: season::ready_water(s, day),
+        total: season::total_on(s, t),
+        ready: season::ready_on(s, t),
     }
 }
 

@@ -46,11 +46,17 @@ crop-need-requires c κs =
     let start = at-day-of .before .before .before .before in
     (start .pre .valid, on-day (start .args .s) (at-day-of .day-of .result) (start .args .day) (search needs) (at-day-of .day-of .ensures))
 
-total-water-requires : tie.Need-total-water-requires
-total-water-requires c κs = search needs
+total-on-requires : tie.Need-total-on-requires
+total-on-requires c κs =
+    let at-day-of = c .before .before .before .before .before in
+    let start = at-day-of .before .before .before .before in
+    (start .pre .valid, on-day (start .args .s) (at-day-of .day-of .result) (start .args .day) (search needs) (at-day-of .day-of .ensures))
 
-ready-water-requires : tie.Need-ready-water-requires
-ready-water-requires c κs = search needs
+ready-on-requires : tie.Need-ready-on-requires
+ready-on-requires c κs =
+    let at-day-of = c .before .before .before .before .before .before in
+    let start = at-day-of .before .before .before .before in
+    (start .pre .valid, on-day (start .args .s) (at-day-of .day-of .result) (start .args .day) (search needs) (at-day-of .day-of .ensures))
 
 returns-3 : tie.Need-returns-3
 returns-3 c = search needs
@@ -72,6 +78,6 @@ season-day-spec =
     cast-t10
     add-t11
     crop-need-requires
-    total-water-requires
-    ready-water-requires
+    total-on-requires
+    ready-on-requires
     returns-3)
