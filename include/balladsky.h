@@ -46,7 +46,7 @@
  * in turn; then enter again what was cut.
  *
  * STACK AND THREADS
- *   Stack, measured on x86-64: the plan 3.2 KB, every other call less than 1.4 KB. No heap, no globals, no locks, no recursion, no system call: calls on
+ *   Stack on x86-64: the plan less than 3.2 KB, every other call less than 1.4 KB. No heap, no globals, no locks, no recursion, no system call: calls on
  *   different buffers may run at once in any number of threads, and calls that only share a sheet or an area too, while nobody stores
  *   to it. From an interrupt a call is as safe as the buffers that it is given.
  */
