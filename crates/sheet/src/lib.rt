@@ -216,11 +216,13 @@ fn judge(fields: &[u32; 40]) -> Verdict
         return Verdict::Refused(4, lowest_outside(fields));
     }
     let s = season_of(fields);
-    let days = season::season_days(s);
+    let long = LONGEST_SEASON < season::season_days(s);
+    let shrinking = s.full < s.sowing;
+    let dry = season::total_water(s, 1) < s.opening;
     Verdict::Accepted
-        .or_refused(LONGEST_SEASON < days, 5, 0)
-        .or_refused(s.full < s.sowing, 6, 0)
-        .or_refused(season::total_water(s, 1) < s.opening, 7, 0)
+        .or_refused(long, 5, 0)
+        .or_refused(shrinking, 6, 0)
+        .or_refused(dry, 7, 0)
 }
 
 // ---- the sheet

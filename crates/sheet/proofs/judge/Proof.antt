@@ -40,24 +40,24 @@ ranged c =
 season-days-requires : tie.Need-season-days-requires
 season-days-requires c κs = ranged c
 
+total-water-requires : tie.Need-total-water-requires
+total-water-requires c κs = ranged (c .before .before)
+
 or-refused-requires : tie.Need-or-refused-requires
 or-refused-requires c κs = search needs
 
 or-refused-requires-2 : tie.Need-or-refused-requires-2
 or-refused-requires-2 c κs = search needs
 
-total-water-requires : tie.Need-total-water-requires
-total-water-requires c κs = ranged (c .before .before .before .before)
-
 or-refused-requires-3 : tie.Need-or-refused-requires-3
 or-refused-requires-3 c κs = search needs
 
 returns-2 : tie.Need-returns-2
 returns-2 c =
-    let water = c .before .before in
-    let second = water .before in
-    let first = second .before .before in
-    let days = first .before in
+    let second = c .before in
+    let first = second .before in
+    let water = first .before .before in
+    let days = water .before .before in
     let of = days .before in
     chain (of .before .before .before .args .fields .now) (of .season-of .result) (days .season-days .result) (water .total-water .result) _ _ _
     (clear (of .before)) (of .season-of .ensures) (days .season-days .ensures) (water .total-water .ensures)
@@ -72,8 +72,8 @@ judge-spec =
     returns
     season-of-requires
     season-days-requires
+    total-water-requires
     or-refused-requires
     or-refused-requires-2
-    total-water-requires
     or-refused-requires-3
     returns-2)
