@@ -17,7 +17,7 @@ use Rattle.verdict.specs.declared.Verdict.{Verdict}
 use Rattle.verdict.specs.declared.Verdict.the-variants.{Accepted, Refused}
 use Rattle.leb128.specs.Claims.{Bytes}
 use Rattle.verdict.proofs.First.{refused-accepted}
-use Rattle.sheet.specs.Numbers.{Run, before, numbers, onlyWhole, ended, numbersRead, written}
+use Rattle.sheet.specs.Numbers.{Run, before, numbers, numbersAre, ended, numbersRead, written}
 use Rattle.sheet.specs.Fields.{seasonOf}
 use Rattle.sheet.specs.Sheets.{fieldsVerdict, sheetOf}
 use Rattle.sheet.proofs.Runs.{numbers-whole, numbers-short, numbers-bad}
@@ -74,9 +74,9 @@ whole-numbers b e =
     record { count = w .0; as-written = w .1 }
 
 -- A buffer that has a sheet's numbers has forty.
-pub buffer-count : (b f : List ℕ) (form : Verdict) → onlyWhole f form ≡ numbersRead b → form ≡ Accepted → length f ≡ 40
+pub buffer-count : (b f : List ℕ) (form : Verdict) → numbersAre f form ≡ numbersRead b → form ≡ Accepted → length f ≡ 40
 buffer-count b f form e a =
-    let n : numbersRead b ≡ record { fields = f; verdict = Accepted } = sym e ∙ ap (onlyWhole f) a in
+    let n : numbersRead b ≡ record { fields = f; verdict = Accepted } = sym e ∙ ap (numbersAre f) a in
     rw n at (whole-numbers b (rw n) .count)
 
 -- What an accepted sheet is, f being its numbers.

@@ -14,8 +14,8 @@ use Rattle.verdict.specs.declared.Verdict.the-variants.{Accepted, Refused}
 use Rattle.verdict.specs.Refusals.{orRefused, firstOf}
 use Rattle.verdict.proofs.First.{first-holds, first-fails, refused-accepted, accepted-fails}
 use Rattle.sheet.specs.Fields.{seasonOf}
-use Rattle.sheet.specs.Sheets.{fieldAtFault, seasonLines, fieldsVerdict, refusal, onlyAccepted, judged, sheetOf}
-use Rattle.sheet.specs.Numbers.{none, onlyWhole, numbersRead}
+use Rattle.sheet.specs.Sheets.{fieldAtFault, seasonLines, fieldsVerdict, sheetIs, refusal, onlyAccepted, judged, sheetOf}
+use Rattle.sheet.specs.Numbers.{Numbers, numbersAre, none, numbersRead}
 use Rattle.sheet.proofs.Ranges.{season-ranged}
 
 pub fault-refused : (f : List ℕ) → 0 < fieldAtFault f → fieldsVerdict f ≡ Refused 4 (fieldAtFault f)
@@ -56,20 +56,30 @@ accepted-sound f n e =
       };
     }
 
--- What reading a sheet answers, by what its numbers, in the buffer f, and their judgement are.
-pub read-stopped : (b f : List ℕ) (form : Verdict) (number value : ℕ) → onlyWhole f form ≡ numbersRead b → form ≡ Refused number value
-    → refusal number value ≡ sheetOf b
-unfolding sheetOf
-read-stopped b f form number value e v =
-    let n : numbersRead b ≡ none number value = sym e ∙ ap (onlyWhole f) v in
-    rw n
+-- What reading a sheet leaves in the buffer and answers, by what its numbers, f in the buffer at first, and their judgement are.
+cleared : (g : List ℕ) (r : Verdict) (number value : ℕ) → numbersAre g r ≡ none number value → sheetIs (seasonOf g) r ≡ refusal number value
+cleared g r number value e = ap (λ (n : Numbers). sheetIs (seasonOf (n .fields)) (n .verdict)) e
 
-pub read-judged : (b f : List ℕ) (form v : Verdict) → onlyWhole f form ≡ numbersRead b → form ≡ Accepted → v ≡ fieldsVerdict f
-    → onlyAccepted (seasonOf f) v ≡ sheetOf b
+pub read-stopped : (b f g : List ℕ) (form r : Verdict) (number value : ℕ) → numbersAre f form ≡ numbersRead b → form ≡ Refused number value
+    → numbersAre g r ≡ none number value → sheetIs (seasonOf g) r ≡ sheetOf b
 unfolding sheetOf
-read-judged b f form v e a j =
-    let n : numbersRead b ≡ record { fields = f; verdict = Accepted } = sym e ∙ ap (onlyWhole f) a in
-    rw (n, j)
+read-stopped b f g form r number value e v z =
+    let n : numbersRead b ≡ numbersAre f (Refused number value) = sym e ∙ ap (numbersAre f) v in
+    rw n (cleared g r number value z)
+
+pub read-refused : (b f g : List ℕ) (form v r : Verdict) (number value : ℕ) → numbersAre f form ≡ numbersRead b → form ≡ Accepted → v ≡ fieldsVerdict f
+    → v ≡ Refused number value → numbersAre g r ≡ none number value → sheetIs (seasonOf g) r ≡ sheetOf b
+unfolding sheetOf
+read-refused b f g form v r number value e a j q z =
+    let n : numbersRead b ≡ numbersAre f Accepted = sym e ∙ ap (numbersAre f) a in
+    rw (n, ← j, q) (cleared g r number value z)
+
+pub read-accepted : (b f : List ℕ) (form v : Verdict) → numbersAre f form ≡ numbersRead b → form ≡ Accepted → v ≡ fieldsVerdict f → v ≡ Accepted
+    → sheetIs (seasonOf f) Accepted ≡ sheetOf b
+unfolding sheetOf
+read-accepted b f form v e a j q =
+    let n : numbersRead b ≡ numbersAre f Accepted = sym e ∙ ap (numbersAre f) a in
+    rw (n, ← j, q)
 
 -- A refused sheet's numbers are all 0.
 only-refused : (s : Season) (v : Verdict) (number value : ℕ) → onlyAccepted s v .verdict ≡ Refused number value → onlyAccepted s v ≡ refusal number value

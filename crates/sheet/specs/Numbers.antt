@@ -34,14 +34,12 @@ pub record Numbers : Type 0 where
   pub fields : List ℕ
   pub verdict : Verdict
 
+abbrev pub numbersAre : List ℕ → Verdict → Numbers
+numbersAre f v = record { fields = f; verdict = v }
+
 -- Refused by 1, 2 or 3: the numbers are all 0.
 abbrev pub none : ℕ → ℕ → Numbers
-none number value = record { fields = replicate 40 0; verdict = Refused number value }
-
--- The numbers where the verdict accepts, and else all 0.
-abbrev pub onlyWhole : List ℕ → Verdict → Numbers
-onlyWhole f Accepted = record { fields = f; verdict = Accepted }
-onlyWhole f (Refused number value) = none number value
+none number value = numbersAre (replicate 40 0) (Refused number value)
 
 -- Refusal 3 has the first extra byte's place.
 unfoldable pub ended : List ℕ → Run → Numbers

@@ -30,6 +30,9 @@ seasonLines s =
 unfoldable pub fieldsVerdict : List ℕ → Verdict
 fieldsVerdict f = firstOf Accepted ((ltb 0 (fieldAtFault f), 4, fieldAtFault f) ∷ seasonLines (seasonOf f))
 
+abbrev pub sheetIs : Season → Verdict → Sheet
+sheetIs s v = record { season = s; verdict = v }
+
 -- A refused sheet: its numbers are all 0.
 abbrev pub refusal : ℕ → ℕ → Sheet
 refusal number value = record { season = seasonOf (replicate 40 0); verdict = Refused number value }

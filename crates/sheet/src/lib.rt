@@ -5,9 +5,9 @@ use verdict::Verdict;
 ghost use mathlib.Core.Path.{_≡_};
 ghost use lib.Dec.{ltb};
 ghost use lib.ListN.{length};
-ghost use Rattle.sheet.specs.Numbers.{numbersRead, onlyWhole};
+ghost use Rattle.sheet.specs.Numbers.{numbersAre, none, numbersRead};
 ghost use Rattle.sheet.specs.Fields.{limits, outside, seasonOf};
-ghost use Rattle.sheet.specs.Sheets.{fieldAtFault, fieldsVerdict, sheetOf, refusal, onlyAccepted};
+ghost use Rattle.sheet.specs.Sheets.{fieldAtFault, fieldsVerdict, sheetIs, sheetOf};
 ghost use Rattle.season.specs.Calendar.{monthDays};
 
 // A sheet's season, all 0 where the sheet is refused.
@@ -68,11 +68,19 @@ const LONGEST_SEASON: u32 = 365;
 
 // ---- refusals 1 to 3
 
-// Puts the forty numbers of a sheet into a lent buffer, or gives the first of refusals 1 to 3 that applies, and the buffer is then not
-// read. (A reference does not tell its array's length, so the `requires` here and below say it.)
+// A refusal, and a lent buffer that is all 0.
+fn refuse(fields: &mut [u32; 40], number: u32, value: usize) -> Verdict
+    ensures { λ r. ⌜ numbersAre (now (fields .exit)) r ≡ none number value ⌝ }
+{
+    *fields = [0u32; 40];
+    Verdict::Refused(number, value)
+}
+
+// Puts the forty numbers of a sheet into a lent buffer, or gives the first of refusals 1 to 3 that applies, and all 0. (A reference does
+// not tell its array's length, so the `requires` here and below say it.)
 fn read_numbers(sheet: &[u8], fields: &mut [u32; 40]) -> Verdict
     requires { ⌜ length (now fields) ≡ 40 ⌝ }
-    ensures { λ r. ⌜ onlyWhole (now (fields .exit)) r ≡ numbersRead (now (sheet .entry)) ⌝ }
+    ensures { λ r. ⌜ numbersAre (now (fields .exit)) r ≡ numbersRead (now (sheet .entry)) ⌝ }
 {
     let mut at: usize = 0;
     let mut k: usize = 0;
@@ -82,13 +90,13 @@ fn read_numbers(sheet: &[u8], fields: &mut [u32; 40]) -> Verdict
                 fields[k] = value;
                 at += length;
             }
-            Number::Short => return Verdict::Refused(1, sheet.len()),
-            Number::Bad(place) => return Verdict::Refused(2, at + place),
+            Number::Short => return refuse(fields, 1, sheet.len()),
+            Number::Bad(place) => return refuse(fields, 2, at + place),
         }
         k += 1;
     }
     if at < sheet.len() {
-        return Verdict::Refused(3, at);
+        return refuse(fields, 3, at);
     }
     Verdict::Accepted
 }
@@ -227,26 +235,18 @@ fn judge(fields: &[u32; 40]) -> Verdict
 
 // ---- the sheet
 
-// The same by all seven refusals.
+// Puts the forty numbers of a sheet into a lent buffer, or gives the first of refusals 1 to 7 that applies, and all 0.
 fn read_fields(sheet: &[u8], fields: &mut [u32; 40]) -> Verdict
     requires { ⌜ length (now fields) ≡ 40 ⌝ }
-    ensures { λ r. ⌜ onlyAccepted (seasonOf (now (fields .exit))) r ≡ sheetOf (now (sheet .entry)) ⌝ }
+    ensures { λ r. ⌜ sheetIs (seasonOf (now (fields .exit))) r ≡ sheetOf (now (sheet .entry)) ⌝ }
 {
     match read_numbers(sheet, fields) {
-        Verdict::Refused(number, value) => return Verdict::Refused(number, value),
+        Verdict::Refused(number, value) => return refuse(fields, number, value),
         Verdict::Accepted => {}
     }
-    judge(fields)
-}
-
-fn refused(number: u32, value: usize) -> Sheet
-    ensures { λ r. ⌜ r ≡ refusal number value ⌝ }
-{
-    let fields = [0u32; 40];
-    let season = season_of(&fields);
-    Sheet {
-        season,
-        verdict: Verdict::Refused(number, value),
+    match judge(fields) {
+        Verdict::Refused(number, value) => refuse(fields, number, value),
+        Verdict::Accepted => Verdict::Accepted,
     }
 }
 
@@ -255,13 +255,7 @@ pub fn read(sheet: &[u8]) -> Sheet
     ensures { λ r. ⌜ r ≡ sheetOf (now (sheet .entry)) ⌝ }
 {
     let mut fields = [0u32; 40];
-    match read_fields(sheet, &mut fields) {
-        Verdict::Refused(number, value) => return refused(number, value),
-        Verdict::Accepted => {}
-    }
+    let verdict = read_fields(sheet, &mut fields);
     let season = season_of(&fields);
-    Sheet {
-        season,
-        verdict: Verdict::Accepted,
-    }
+    Sheet { season, verdict }
 }
