@@ -68,29 +68,29 @@ extern "C" {
 /* Opens the journal. Clean or torn: out[2] open day (days + 1 when all are closed), [3] depletion, [4] waiting rain, [5] waiting
  * irrigation, [6] season rain, [7] season irrigation, [8] season use, [9] season percolation, [10] the place after the last entry.
  * Refusals 1 to 9. */
-void controller_open(const uint8_t *sheet, size_t sheet_length, const uint8_t *area, size_t area_length, uint32_t *out);
+void balladsky_open(const uint8_t *sheet, size_t sheet_length, const uint8_t *area, size_t area_length, uint32_t *out);
 
 /* Enters rain of the open day. Accepted: out[2] start, [3] count, [4] to [7] four bytes, 0 past the count. Refusals 1 to 14. */
-void controller_rain(const uint8_t *sheet, size_t sheet_length, const uint8_t *area, size_t area_length, uint32_t amount, uint32_t *out);
+void balladsky_rain(const uint8_t *sheet, size_t sheet_length, const uint8_t *area, size_t area_length, uint32_t amount, uint32_t *out);
 
 /* Enters irrigation of the open day, a net amount. As rain. Refusals 1 to 14. */
-void controller_irrigation(const uint8_t *sheet, size_t sheet_length, const uint8_t *area, size_t area_length, uint32_t amount, uint32_t *out);
+void balladsky_irrigation(const uint8_t *sheet, size_t sheet_length, const uint8_t *area, size_t area_length, uint32_t amount, uint32_t *out);
 
 /* Closes the open day. As rain. Refusals 1 to 11, and 14. */
-void controller_close(const uint8_t *sheet, size_t sheet_length, const uint8_t *area, size_t area_length, uint32_t *out);
+void balladsky_close(const uint8_t *sheet, size_t sheet_length, const uint8_t *area, size_t area_length, uint32_t *out);
 
 /* Mends a torn journal. Accepted: out[2] count, [3] to [5] three places to set to FF, highest first, 0 past the count. A clean journal
  * has none. Refusals 1 to 9. */
-void controller_mend(const uint8_t *sheet, size_t sheet_length, const uint8_t *area, size_t area_length, uint32_t *out);
+void balladsky_mend(const uint8_t *sheet, size_t sheet_length, const uint8_t *area, size_t area_length, uint32_t *out);
 
 /* Plans the waterings from the open day to the season's end. Accepted: depths[0] is the open day's net depth, depths[1] the next
  * day's, and so on; out[2] how many are above 0, [3] the net total, [4] the gross total. Refusals 1 to 11, 15 and 16. */
-void controller_plan(const uint8_t *sheet, size_t sheet_length, const uint8_t *area, size_t area_length, uint32_t *depths, size_t depths_length,
+void balladsky_plan(const uint8_t *sheet, size_t sheet_length, const uint8_t *area, size_t area_length, uint32_t *depths, size_t depths_length,
     uint32_t *out);
 
 /* The decade table. Accepted: rows holds six numbers a row: month, decade, need, planned rain, net, gross; out[2] how many rows.
  * Refusals 1 to 7, and 15. */
-void controller_table(const uint8_t *sheet, size_t sheet_length, uint32_t *rows, size_t rows_length, uint32_t *out);
+void balladsky_table(const uint8_t *sheet, size_t sheet_length, uint32_t *rows, size_t rows_length, uint32_t *out);
 
 #ifdef __cplusplus
 }

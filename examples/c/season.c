@@ -30,10 +30,10 @@ static void store(uint32_t done) {
 
 /* What firmware does when it comes up: open, and mend what a cut left. */
 static void come_up(void) {
-    controller_open(sheet, sizeof sheet, area, sizeof area, out);
+    balladsky_open(sheet, sizeof sheet, area, sizeof area, out);
     if (out[0] == 10) {
         printf("torn at %u\n", out[1]);
-        controller_mend(sheet, sizeof sheet, area, sizeof area, out);
+        balladsky_mend(sheet, sizeof sheet, area, sizeof area, out);
         must("mend");
         for (uint32_t i = 0; i < out[2]; i++)
             area[out[3 + i]] = 0xFF;
@@ -59,7 +59,7 @@ static void enter_with_cut(const char *name, entry_call *call, uint32_t amount, 
 }
 
 static void close_day(unsigned day) {
-    controller_close(sheet, sizeof sheet, area, sizeof area, out);
+    balladsky_close(sheet, sizeof sheet, area, sizeof area, out);
     must("close");
     store(out[3]);
     printf("day %u closed\n", day);
@@ -71,16 +71,16 @@ int main(void) {
     };
     uint32_t depths[BALLADSKY_DEPTHS];
     memset(area, 0xFF, sizeof area);
-    enter_with_cut("rain", controller_rain, 300, 2);
+    enter_with_cut("rain", balladsky_rain, 300, 2);
     close_day(1);
     close_day(2);
-    controller_plan(sheet, sizeof sheet, area, sizeof area, depths, BALLADSKY_DEPTHS, out);
+    balladsky_plan(sheet, sizeof sheet, area, sizeof area, depths, BALLADSKY_DEPTHS, out);
     must("plan");
     printf("plan: %u watering%s, net %u, gross %u\n", out[2], out[2] == 1 ? "" : "s", out[3], out[4]);
-    enter_with_cut("irrigation", controller_irrigation, depths[0], 1);
+    enter_with_cut("irrigation", balladsky_irrigation, depths[0], 1);
     close_day(3);
     close_day(4);
-    controller_open(sheet, sizeof sheet, area, sizeof area, out);
+    balladsky_open(sheet, sizeof sheet, area, sizeof area, out);
     must("open");
     for (int i = 0; i < 9; i++)
         printf("%s %u\n", names[i], out[2 + i]);

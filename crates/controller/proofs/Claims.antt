@@ -22,9 +22,9 @@ use Rattle.journal.specs.declared.Recorded.{Recorded}
 use Rattle.journal.specs.declared.Mended.{Mended}
 use Rattle.journal.specs.Entries.{tagOf, sourceTag, numberOf, start, enter, refusal, accepts, passes}
 use Rattle.journal.specs.Entries as journal
-use Rattle.journal.specs.Opening.{value, least, starts, entryOf, only, entryAt, replay, replayed, blank, trim, tornAt, behind, opening}
-use Rattle.journal.specs.Calls.{noStores, judged, recorded, stains, notMended, mendedOn, mended, wipesIn, mendedNumbers}
-use Rattle.journal.specs.Words.{Opens}
+use Rattle.journal.specs.Opening.{value, least, starts, entryOf, only, entryAt, replay, replayed, isBlank, trim, tornAt, behind, opening}
+use Rattle.journal.specs.Calls.{noStores, recordedWith, recorded, wipePlaces, notMended, mendedOn, mended, wipesIn, mendedNumbers}
+use Rattle.journal.specs.Specified.{Opens}
 use Rattle.journal.specs.Claims.{OpeningOccurs, RecordedOccurs, MendedOccurs}
 use Rattle.journal.proofs.Claims as journals
 use Rattle.planner.specs.declared.Planned.{Planned}
@@ -51,10 +51,10 @@ module _ (sheet : List ℕ) where
     noOpening = found.Refused
 
     abbrev noEntry : ℕ → ℕ → Recorded
-    noEntry number value = judged (verdict.Refused number value) noStores
+    noEntry number value = recordedWith (verdict.Refused number value) noStores
 
     entry-no-stores : (e : Entry) (number value : ℕ) → sheetRecorded sheet area e .verdict ≡ verdict.Refused number value → sheetRecorded sheet area e ≡ noEntry number value
-    unfolding judged
+    unfolding recordedWith
     entry-no-stores e number value =
         on-sheet noEntry (λ s. recorded s area e) sheet (λ (r : Recorded). r .verdict ≡ verdict.Refused number value → r ≡ noEntry number value)
         (λ m w v h. let i : m ≡ number = cc in let j : w ≡ value = cc in rw (i, j))
@@ -73,7 +73,7 @@ module _ (sheet : List ℕ) where
         (λ s v q o. journals.claims .opening-occurs s area)
 
     recorded-occurs : (e : Entry) → RecordedOccurs (sheetRecorded sheet area e)
-    unfolding judged
+    unfolding recordedWith
     recorded-occurs e =
         on-sheet noEntry (λ s. recorded s area e) sheet RecordedOccurs
         (λ number value v. (sheets.claims .refused-number sheet number value v .0, refl))
@@ -82,7 +82,7 @@ module _ (sheet : List ℕ) where
     mended-occurs : MendedOccurs (sheetMended sheet area)
     mended-occurs =
         on-sheet notMended (λ s. mended s area) sheet MendedOccurs
-        (λ number value v. (record { three = refl; few = omega arith; rest = refl }, (sheets.claims .refused-number sheet number value v .0, refl)))
+        (λ number value v. (record { size = refl; few = omega arith; rest = refl }, (sheets.claims .refused-number sheet number value v .0, refl)))
         (λ s v q o. journals.claims .mended-occurs s o area)
 
     plan-unaltered : (out : List ℕ) (number value : ℕ) → sheetPlanned sheet area out .0 ≡ planned.Refused number value → sheetPlanned sheet area out .1 ≡ out
@@ -98,16 +98,16 @@ module _ (sheet : List ℕ) where
       (λ s v q o h. decades.claims .refused-unaltered s out number value h)
 
 cases-hold : map (λ (c : List ℕ × List ℕ). c .0) cases ≡ map (λ (c : List ℕ × List ℕ). c .1) cases
-unfolding cases onSheet plannedOn sheetOf fieldsVerdict lowestOutside outside numbersRead ended numbers before written decode decodeFrom below encode overGroups overIn groupCount orRefused opening replayed replay behind blank trim tornAt entryAt entryOf only value least starts start enter refusal accepts passes tagOf sourceTag numberOf journal.outside mended mendedOn stains mendedNumbers wipesIn answer answerTo byWalks onWalk pad walk ending watered irrigated sum dateOf kcOf cropNeed rainOn nextDay daysOn ramp rampZ
+unfolding cases onSheet plannedOn sheetOf fieldsVerdict lowestOutside outside numbersRead ended numbers before written decode decodeFrom below encode overGroups overIn groupCount orRefused opening replayed replay behind isBlank trim tornAt entryAt entryOf only value least starts start enter refusal accepts passes tagOf sourceTag numberOf journal.outside mended mendedOn wipePlaces mendedNumbers wipesIn answer answerTo byWalks onWalk pad walk ending watered irrigated sum dateOf kcOf cropNeed rainOn nextDay daysOn ramp rampZ
 cases-hold = refl
 
 pub claims : Claims
-unfolding judged
+unfolding recordedWith
 claims = record {
   demand-3 = demand-3;
   open-refuses = λ sheet area. sheet-verdict openVerdict found.Refused (λ s. opening s area) sheet (openLines area) (λ number value. refl) (λ s o. open-verdict s area);
   entry-refuses = λ sheet area e.
-      sheet-verdict (λ (r : Recorded). r .verdict) (λ number value. judged (verdict.Refused number value) noStores) (λ s. recorded s area e) sheet (entryLines area e) (λ number value. refl) (λ s o. entry-verdict s area e);
+      sheet-verdict (λ (r : Recorded). r .verdict) (λ number value. recordedWith (verdict.Refused number value) noStores) (λ s. recorded s area e) sheet (entryLines area e) (λ number value. refl) (λ s o. entry-verdict s area e);
   mend-refuses = λ sheet area.
       sheet-verdict (λ (r : Mended). r .verdict) notMended (λ s. mended s area) sheet (openLines area) (λ number value. refl) (λ s o. mend-verdict s area);
   plan-refuses = λ sheet area out.

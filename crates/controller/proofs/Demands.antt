@@ -13,12 +13,12 @@ use Rattle.season.specs.declared.Gross.{Gross}
 use Rattle.season.specs.Sheet.{seasonDays}
 use Rattle.verdict.specs.declared.Verdict.the-variants as verdict
 use Rattle.sheet.specs.Sheets.{sheetOf}
-use Rattle.sheet.proofs.Accepted.{accepted-sown}
+use Rattle.sheet.proofs.Accepted.{accepted-season}
 use Rattle.journal.specs.declared.Ledger.{Ledger}
 use Rattle.journal.specs.declared.Opening.the-variants as found
 use Rattle.journal.specs.Entries.{waiting}
 use Rattle.journal.specs.Opening.{numbersOf, opening}
-use Rattle.journal.specs.Calls.{noStores, judged, recorded, notMended, mended}
+use Rattle.journal.specs.Calls.{noStores, recordedWith, recorded, notMended, mended}
 use Rattle.journal.specs.Book.{Step, emptyBook, ledgerOf, bookAfter}
 use Rattle.journal.specs.History.{Device, journal, areaAfter, answers}
 use Rattle.journal.specs.Claims.{opensAs}
@@ -80,7 +80,7 @@ module _ (sheet : List ℕ) (v : sheetOf sheet .verdict ≡ verdict.Accepted) wh
   -- Its calls are the journal's.
   same-calls : calls sheet ≡ journal s
   same-calls = λ i. record {
-    records = λ area e. sheet-accepted (λ number value. judged (verdict.Refused number value) noStores) (λ t. recorded t area e) sheet (sheetOf sheet) refl v i;
+    records = λ area e. sheet-accepted (λ number value. recordedWith (verdict.Refused number value) noStores) (λ t. recorded t area e) sheet (sheetOf sheet) refl v i;
     mending = λ area. sheet-accepted notMended (λ t. mended t area) sheet (sheetOf sheet) refl v i;
   }
 
@@ -99,7 +99,7 @@ module _ (sheet : List ℕ) (v : sheetOf sheet .verdict ≡ verdict.Accepted) wh
   unfolding opensAs
   demand-3 size h steps out =
       let k = bookAfter s size emptyBook steps in
-      let kept = journals.claims .history-kept s (accepted-sown sheet v) size h steps in
+      let kept = journals.claims .history-kept s (accepted-season sheet v) size h steps in
       let area = areaAfter (calls sheet) (blank size) steps in
       let same : area ≡ areaAfter (journal s) (blank size) steps = ap (λ (d : Device). areaAfter d (blank size) steps) same-calls in
       let o : opening s area ≡ opensAs (ledgerOf s k) (k .loose) = ap (opening s) same ∙ kept .opens-as in

@@ -6,7 +6,7 @@ use native.Mathlib.Omega.{arith}
 use borrow.Author.Tests.{lt-ltb, le-ltb}
 use Rattle.season.specs.declared.Season.{Season}
 use Rattle.season.specs.Sheet.{DayOf, seasonDays}
-use Rattle.season.specs.Day.{Sown}
+use Rattle.season.specs.Day.{AcceptedSeason}
 use Rattle.season.proofs.Bounds.{total-le}
 use Rattle.journal.specs.declared.Ledger.{Ledger}
 use Rattle.journal.specs.declared.Opening.{Opening}
@@ -37,7 +37,7 @@ module _ (s : Season) (area out : List ℕ) (r : Opening) (is : r ≡ opening s 
   plan-refused number place c = rw (sym is ∙ c, plannedOn)
 
   -- What the planner requires of a clean journal's ledger.
-  pub ledger-plans : Sown s → (l : Ledger) (n : ℕ) → r ≡ found.Clean l → n ≡ seasonDays s → l .day ≤ n
+  pub ledger-plans : AcceptedSeason s → (l : Ledger) (n : ℕ) → r ≡ found.Clean l → n ≡ seasonDays s → l .day ≤ n
       → (waiting l ≤ 240000) × DayOf s (l .day) × (l .depletion ≤ 120000)
   ledger-plans v l n c e h =
       let w = clean-within s area v r l is c in

@@ -8,7 +8,7 @@ use lib.ListN.{length, drop}
 use borrow.Author.Tests.{lt-ltb, le-ltb, leb-true, leb-false}
 use Rattle.season.specs.declared.Season.{Season}
 use Rattle.season.specs.Sheet.{seasonDays}
-use Rattle.season.specs.Day.{Sown}
+use Rattle.season.specs.Day.{AcceptedSeason}
 use Rattle.verdict.specs.declared.Verdict.{Verdict}
 use Rattle.verdict.specs.declared.Verdict.the-variants.{Accepted, Refused}
 use Rattle.verdict.specs.Refusals.{orRefused, firstOf}
@@ -20,8 +20,8 @@ use Rattle.journal.specs.declared.Opening.{Opening}
 use Rattle.journal.specs.declared.Opening.the-variants as found
 use Rattle.journal.specs.declared.Stores.{Stores}
 use Rattle.journal.specs.Entries.{waiting, refusals, refusal}
-use Rattle.journal.specs.Opening.{replayed, tornAt, trim, blank, behind, opening}
-use Rattle.journal.specs.Calls.{noStores, judged, storesOf, recordedOn, recorded, notMended, mendedOn, mended}
+use Rattle.journal.specs.Opening.{replayed, tornAt, trim, isBlank, behind, opening}
+use Rattle.journal.specs.Calls.{noStores, recordedWith, storesOf, recordedOn, recorded, notMended, mendedOn, mended}
 use Rattle.planner.specs.declared.Planned.{Planned}
 use Rattle.planner.specs.declared.Planned.the-variants as planned
 use Rattle.planner.specs.Plan.{Plan, depths, refused}
@@ -39,7 +39,7 @@ use Rattle.controller.proofs.Sheets.{on-sheet}
 -- Refusals 1 to 7 come first, for every call.
 pub sheet-verdict : {A : Type 0} (verdictOf : A → Verdict) (refuse : ℕ → ℕ → A) (reply : Season → A) (sheet : List ℕ) (lines : Season → List Line)
     → ((number value : ℕ) → verdictOf (refuse number value) ≡ Refused number value)
-    → ((s : Season) → Sown s → verdictOf (reply s) ≡ firstOf Accepted (lines s))
+    → ((s : Season) → AcceptedSeason s → verdictOf (reply s) ≡ firstOf Accepted (lines s))
     → verdictOf (onSheet refuse reply sheet) ≡ firstOf Accepted (sheetLines sheet lines)
 unfolding orRefused
 sheet-verdict verdictOf refuse reply sheet lines no-sheet of-season =
@@ -72,7 +72,7 @@ opening-by s area P long clean torn damaged = size (leb (length area) 8192) refl
 
     size : (b : Bool) → leb (length area) 8192 ≡ b
         → P (elim b [ true ↦ behind (seasonDays s) (length area) (replayed s area .ledger) (replayed s area .rest) | false ↦ found.Refused 8 0 ])
-    size true e = tail (blank rest) (leb-true (length area) 8192 e)
+    size true e = tail (isBlank rest) (leb-true (length area) 8192 e)
     size false e = long (leb-false (length area) 8192 e)
 
 -- ---- 8 to 14
@@ -95,18 +95,18 @@ module _ (s : Season) (area : List ℕ) where
   pub open-verdict : openVerdict (opening s area) ≡ firstOf Accepted (openLines area s)
   open-verdict = by-opening openVerdict (λ o. []) (λ number place. refl) (λ l. refl) (λ l. refl)
 
-  judged-verdict : (v : Verdict) (w : Stores) → judged v w .verdict ≡ v
-  unfolding judged
-  judged-verdict Accepted w = refl
-  judged-verdict (Refused number value) w = refl
+  recorded-with-verdict : (v : Verdict) (w : Stores) → recordedWith v w .verdict ≡ v
+  unfolding recordedWith
+  recorded-with-verdict Accepted w = refl
+  recorded-with-verdict (Refused number value) w = refl
 
   pub entry-verdict : (e : Entry) → recorded s area e .verdict ≡ firstOf Accepted (entryLines area e s)
   unfolding recorded recordedOn refusal orRefused
   entry-verdict e =
       by-opening (λ o. recordedOn (seasonDays s) (length area) e o .verdict) (λ o. tornLine o ∷ refusals (seasonDays s) (length area) (ledgerIn s o) e)
-      (λ number place. judged-verdict (Refused number place) noStores)
-      (λ l. judged-verdict (refusal (seasonDays s) (length area) l e) (storesOf l e))
-      (λ l. judged-verdict (Refused 10 (l .place)) noStores ∙ sym (first-refused 10 (l .place) (refusals (seasonDays s) (length area) l e)))
+      (λ number place. recorded-with-verdict (Refused number place) noStores)
+      (λ l. recorded-with-verdict (refusal (seasonDays s) (length area) l e) (storesOf l e))
+      (λ l. recorded-with-verdict (Refused 10 (l .place)) noStores ∙ sym (first-refused 10 (l .place) (refusals (seasonDays s) (length area) l e)))
 
   pub mend-verdict : mended s area .verdict ≡ firstOf Accepted (openLines area s)
   unfolding mended mendedOn
@@ -161,21 +161,21 @@ table-verdict s out = go (ltb (length out) (rowCount s * 6))
 
 -- ---- a refused call: no stores, buffers as they were
 
-judged-accepted : (w : Stores) → judged Accepted w .verdict ≡ Accepted
-unfolding judged
-judged-accepted w = refl
+recorded-with-accepted : (w : Stores) → recordedWith Accepted w .verdict ≡ Accepted
+unfolding recordedWith
+recorded-with-accepted w = refl
 
 pub entry-refused : (s : Season) (area : List ℕ) (e : Entry) (number value : ℕ) → recorded s area e .verdict ≡ Refused number value
-    → recorded s area e ≡ judged (Refused number value) noStores
+    → recorded s area e ≡ recordedWith (Refused number value) noStores
 unfolding recorded recordedOn
 entry-refused s area e number value = go (opening s area)
   where
-    none : (v : Verdict) (w : Stores) → judged v w .verdict ≡ Refused number value → judged v w ≡ judged (Refused number value) noStores
-    none Accepted w h = absurd (refused-accepted number value (sym h ∙ judged-accepted w))
+    none : (v : Verdict) (w : Stores) → recordedWith v w .verdict ≡ Refused number value → recordedWith v w ≡ recordedWith (Refused number value) noStores
+    none Accepted w h = absurd (refused-accepted number value (sym h ∙ recorded-with-accepted w))
     none (Refused m x) w h = let i : m ≡ number = cc in let j : x ≡ value = cc in rw (i, j)
 
     go : (o : Opening) → recordedOn (seasonDays s) (length area) e o .verdict ≡ Refused number value
-        → recordedOn (seasonDays s) (length area) e o ≡ judged (Refused number value) noStores
+        → recordedOn (seasonDays s) (length area) e o ≡ recordedWith (Refused number value) noStores
     go (found.Clean l) h = none (refusal (seasonDays s) (length area) l e) (storesOf l e) h
     go (found.Torn l place) h = none (Refused 10 place) noStores h
     go (found.Refused m place) h = none (Refused m place) noStores h

@@ -16,7 +16,7 @@ use Rattle.journal.specs.declared.Recorded.{Recorded}
 use Rattle.journal.specs.declared.Mended.{Mended}
 use Rattle.journal.specs.Entries.{waiting}
 use Rattle.journal.specs.Opening.{opening}
-use Rattle.journal.specs.Calls.{noStores, judged, recorded, notMended, mended}
+use Rattle.journal.specs.Calls.{noStores, recordedWith, recorded, notMended, mended}
 use Rattle.planner.specs.declared.Planned.{Planned}
 use Rattle.planner.specs.declared.Planned.the-variants as planned
 use Rattle.planner.specs.Answer.{answer}
@@ -37,7 +37,7 @@ sheetOpened sheet area = onSheet found.Refused (λ s. opening s area) sheet
 
 -- Rain, irrigation and close: a refusal has no stores.
 abbrev pub sheetRecorded : List ℕ → List ℕ → Entry → Recorded
-sheetRecorded sheet area e = onSheet (λ number value. judged (Refused number value) noStores) (λ s. recorded s area e) sheet
+sheetRecorded sheet area e = onSheet (λ number value. recordedWith (Refused number value) noStores) (λ s. recorded s area e) sheet
 
 -- Mend.
 abbrev pub sheetMended : List ℕ → List ℕ → Mended

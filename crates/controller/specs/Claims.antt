@@ -10,8 +10,8 @@ use Rattle.sheet.specs.Numbers.{numbersRead, written}
 use Rattle.sheet.specs.Fields.{seasonOf}
 use Rattle.sheet.specs.Sheets.{fieldsVerdict, sheetOf}
 use Rattle.journal.specs.declared.Entry.{Entry}
-use Rattle.journal.specs.Words.{Opens}
-use Rattle.journal.specs.Calls.{noStores, judged, notMended}
+use Rattle.journal.specs.Specified.{Opens}
+use Rattle.journal.specs.Calls.{noStores, recordedWith, notMended}
 use Rattle.journal.specs.Book.{Step}
 use Rattle.journal.specs.Claims as journal
 use Rattle.journal.specs.Claims.{OpeningOccurs, RecordedOccurs, MendedOccurs}
@@ -34,7 +34,7 @@ pub record Claims : Type 0 where
   pub table-refuses : (sheet out : List ℕ) → tableVerdict (sheetTabled sheet out .0) ≡ firstOf Accepted (sheetLines sheet (tableLines (length out)))
   -- and a refused call has no stores and leaves every lent buffer as it was.
   pub entry-no-stores : (sheet area : List ℕ) (e : Entry) (number value : ℕ) → sheetRecorded sheet area e .verdict ≡ Refused number value
-      → sheetRecorded sheet area e ≡ judged (Refused number value) noStores
+      → sheetRecorded sheet area e ≡ recordedWith (Refused number value) noStores
   pub mend-no-stores : (sheet area : List ℕ) (number value : ℕ) → sheetMended sheet area .verdict ≡ Refused number value
       → sheetMended sheet area ≡ notMended number value
   pub plan-unaltered : (sheet area out : List ℕ) (number value : ℕ) → sheetPlanned sheet area out .0 ≡ planned.Refused number value

@@ -10,7 +10,7 @@ use planner::Planned;
 use season::Season;
 use verdict::Verdict;
 ghost use mathlib.Core.Path.{_≡_};
-ghost use Rattle.season.specs.Day.{Sown};
+ghost use Rattle.season.specs.Day.{AcceptedSeason};
 ghost use Rattle.journal.specs.declared.Entry.the-variants.{Water, Close};
 ghost use Rattle.journal.specs.declared.Source.the-variants.{Rain, Irrigation};
 ghost use Rattle.journal.specs.Opening.{opening};
@@ -78,7 +78,7 @@ pub fn mend(sheet: &[u8], area: &[u8]) -> Mended
 
 // The plan of a season on its journal, from the open day on.
 fn plan_season(s: Season, area: &[u8], depths: &mut [u32]) -> Planned
-    requires { ⌜ Sown s ⌝ }
+    requires { ⌜ AcceptedSeason s ⌝ }
     ensures { λ r. ⌜ (r, now (depths .exit)) ≡ plannedOn s (now (depths .entry)) (opening s (now (area .entry))) ⌝ }
 {
     match journal::open(s, area) {
@@ -90,7 +90,7 @@ fn plan_season(s: Season, area: &[u8], depths: &mut [u32]) -> Planned
                 s,
                 l.day,
                 l.depletion,
-                l.waitingrain + l.waitingirrigation,
+                l.waiting_rain + l.waiting_irrigation,
                 depths,
             )
         }

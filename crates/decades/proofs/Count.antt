@@ -13,7 +13,8 @@ use Rattle.season.specs.declared.Date.{Date}
 use Rattle.season.specs.declared.SeasonDay.{SeasonDay}
 use Rattle.season.specs.Sheet.{Valid, seasonDays}
 use Rattle.season.specs.Calendar.{dateIs, daysOn, Proper}
-use Rattle.season.specs.Day.{dateOf, dayOf}
+use Rattle.season.specs.Day.{dateOf}
+use Rattle.season.specs.Carried.{dayOf}
 use Rattle.season.proofs.Whole.{by-order}
 use Rattle.season.proofs.Calendar.{days-high}
 use Rattle.season.proofs.Bounds.{date-proper}

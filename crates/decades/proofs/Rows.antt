@@ -15,7 +15,8 @@ use Rattle.season.specs.declared.SeasonDay.{SeasonDay}
 use Rattle.season.specs.Calendar.{monthAfter}
 use Rattle.season.specs.Sheet.{Valid, DayOf, seasonDays}
 use Rattle.season.specs.Rules.{rainTo}
-use Rattle.season.specs.Day.{cropNeed, needsAfter, rainOn, dayOf, OnDay}
+use Rattle.season.specs.Day.{cropNeed, rainOn}
+use Rattle.season.specs.Carried.{needsAfter, dayOf, OnDay}
 use Rattle.season.proofs.Whole.{by-order}
 use Rattle.season.proofs.Bounds.{need-le}
 use Rattle.season.proofs.Days.{OnInMonth, number-is, on-day, day-proper, rain-grows, next-inside, next-month}

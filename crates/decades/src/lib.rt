@@ -9,7 +9,7 @@ ghost use lib.ListN.{length, drop};
 ghost use lib.Seq.{sets};
 ghost use Rattle.season.specs.Sheet.{Valid};
 ghost use Rattle.season.specs.Rules.{rainTo};
-ghost use Rattle.season.specs.Day.{OnDay};
+ghost use Rattle.season.specs.Carried.{OnDay};
 ghost use Rattle.decades.specs.Table.{decadeOf, sameDecade, six, rowCount, table, tabled};
 ghost use Rattle.decades.specs.OpenRow.{rowOf, decadeEnd, daysAlike};
 
@@ -91,7 +91,7 @@ fn decade_end(day: u32) -> u32
 fn days_alike(t: SeasonDay) -> u32
     ensures { λ r. ⌜ r ≡ daysAlike t ⌝ }
 {
-    let rest = season::less(decade_end(t.day), t.day);
+    let rest = season::saturating_sub(decade_end(t.day), t.day);
     if t.left <= rest { t.left } else { rest }
 }
 
@@ -127,7 +127,7 @@ fn put_row(out: &mut [u32], at: usize, efficiency: u32, row: Row)
     requires { ⌜ (1 ≤ efficiency) × (efficiency ≤ 100) × (row .need ≤ 40000000) ⌝ }
     ensures { λ _. ⌜ now (out .exit) ≡ sets (now (out .entry)) at (six efficiency row) ⌝ }
 {
-    let net = Net(season::less(row.need, row.rain));
+    let net = Net(season::saturating_sub(row.need, row.rain));
     let gross = season::gross_of(efficiency, net).points();
     out[at] = row.month;
     out[at + 1] = row.decade;

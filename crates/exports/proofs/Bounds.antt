@@ -13,7 +13,7 @@ use Rattle.leb128.specs.declared.Number.the-variants.{Whole, Short, Bad}
 use Rattle.leb128.specs.Forms.{decode, decodeFrom, below}
 use Rattle.leb128.proofs.Laws.{few-bytes, short-few, reach-le}
 use Rattle.season.specs.declared.Season.{Season}
-use Rattle.season.specs.Day.{Sown}
+use Rattle.season.specs.Day.{AcceptedSeason}
 use Rattle.verdict.specs.declared.Verdict.{Verdict}
 use Rattle.verdict.specs.declared.Verdict.the-variants.{Accepted, Refused}
 use Rattle.verdict.specs.Refusals.{orRefused}
@@ -30,8 +30,8 @@ use Rattle.journal.specs.declared.Mended.{Mended}
 use Rattle.journal.specs.declared.Opening.{Opening}
 use Rattle.journal.specs.declared.Opening.the-variants as found
 use Rattle.journal.specs.Entries.{waiting, refusal}
-use Rattle.journal.specs.Opening.{replayed, tornAt, trim, blank, behind, opening}
-use Rattle.journal.specs.Calls.{storesOf, noStores, judged, recordedOn, recorded, stains, notMended, mendedOn, mended}
+use Rattle.journal.specs.Opening.{replayed, tornAt, trim, isBlank, behind, opening}
+use Rattle.journal.specs.Calls.{storesOf, noStores, recordedWith, recordedOn, recorded, wipePlaces, notMended, mendedOn, mended}
 use Rattle.journal.specs.Claims.{StoresOccur}
 use Rattle.journal.proofs.Sums.{replayed-place}
 use Rattle.planner.specs.declared.Planned.{Planned}
@@ -173,7 +173,7 @@ opening-by s area P long clean torn damaged = size (leb (length area) 8192) refl
 
     size : (b : Bool) → leb (length area) 8192 ≡ b
         → P (elim b [ true ↦ behind (seasonDays s) (length area) (replayed s area .ledger) (replayed s area .rest) | false ↦ found.Refused 8 0 ])
-    size true e = tail (blank rest) (leb-true (length area) 8192 e)
+    size true e = tail (isBlank rest) (leb-true (length area) 8192 e)
     size false e = long
 
 pub opened-small : (sheet area : List ℕ) → SmallOpening (sheetOpened sheet area)
@@ -193,21 +193,21 @@ record Begins (r : Recorded) : Type 0 where
   verdict : SmallVerdict (r .verdict)
   start : r .stores .start ≤ 8192
 
-judged-begins : (v : Verdict) (w : Stores) → SmallVerdict v → w .start ≤ 8192 → Begins (judged v w)
-unfolding judged
-judged-begins Accepted w a h = record { verdict = tt; start = h }
-judged-begins (Refused number value) w a h = record { verdict = a; start = omega arith }
+recorded-with-begins : (v : Verdict) (w : Stores) → SmallVerdict v → w .start ≤ 8192 → Begins (recordedWith v w)
+unfolding recordedWith
+recorded-with-begins Accepted w a h = record { verdict = tt; start = h }
+recorded-with-begins (Refused number value) w a h = record { verdict = a; start = omega arith }
 
 recorded-begins : (sheet area : List ℕ) (e : Entry) → Begins (sheetRecorded sheet area e)
 unfolding recorded recordedOn storesOf
 recorded-begins sheet area e =
-    on-sheet (λ number value. judged (Refused number value) noStores) (λ s. recorded s area e) sheet Begins
-    (λ number value v. judged-begins (Refused number value) noStores (refused-small sheet number value v) (omega arith))
+    on-sheet (λ number value. recordedWith (Refused number value) noStores) (λ s. recorded s area e) sheet Begins
+    (λ number value v. recorded-with-begins (Refused number value) noStores (refused-small sheet number value v) (omega arith))
     (λ s v q o. opening-by s area (λ o. Begins (recordedOn (seasonDays s) (length area) e o))
-    (judged-begins (Refused 8 0) noStores (omega arith) (omega arith))
-    (λ h l i. judged-begins (refusal (seasonDays s) (length area) l e) (storesOf l e) (entry-small (seasonDays s) (length area) l e) (omega arith))
-    (λ h l i. judged-begins (Refused 10 (l .place)) noStores (omega arith) (omega arith))
-    (λ h l i. judged-begins (Refused 9 (l .place)) noStores (omega arith) (omega arith)))
+    (recorded-with-begins (Refused 8 0) noStores (omega arith) (omega arith))
+    (λ h l i. recorded-with-begins (refusal (seasonDays s) (length area) l e) (storesOf l e) (entry-small (seasonDays s) (length area) l e) (omega arith))
+    (λ h l i. recorded-with-begins (Refused 10 (l .place)) noStores (omega arith) (omega arith))
+    (λ h l i. recorded-with-begins (Refused 9 (l .place)) noStores (omega arith) (omega arith)))
 
 few-stores : (v : Verdict) (w : Stores) → StoresOccur v w → w .count ≤ 8192
 few-stores Accepted w h = omega (arith, h .few)
@@ -244,14 +244,14 @@ zeros-up-to most (suc zero) = omega arith
 zeros-up-to most (suc (suc zero)) = omega arith
 zeros-up-to most (suc (suc (suc i))) = omega arith
 
-stains-up-to : (most p : ℕ) (bs : List ℕ) → p + length bs ≤ most → EachUpTo most (stains p bs)
-unfolding stains
-stains-up-to most p [] h = λ i. omega arith
-stains-up-to most p (b ∷ bs) h = test (eqb b 0xFF) (stains-up-to most (suc p) bs (omega arith))
+wipe-places-up-to : (most p : ℕ) (bs : List ℕ) → p + length bs ≤ most → EachUpTo most (wipePlaces p bs)
+unfolding wipePlaces
+wipe-places-up-to most p [] h = λ i. omega arith
+wipe-places-up-to most p (b ∷ bs) h = test (eqb b 0xFF) (wipe-places-up-to most (suc p) bs (omega arith))
   where
-    test : (t : Bool) → EachUpTo most (stains (suc p) bs) → EachUpTo most (elim t [ true ↦ stains (suc p) bs | false ↦ stains (suc p) bs ++ (p ∷ []) ])
+    test : (t : Bool) → EachUpTo most (wipePlaces (suc p) bs) → EachUpTo most (elim t [ true ↦ wipePlaces (suc p) bs | false ↦ wipePlaces (suc p) bs ++ (p ∷ []) ])
     test true g = g
-    test false g = each-append most (stains (suc p) bs) (p ∷ []) g (each-one most p (omega arith))
+    test false g = each-append most (wipePlaces (suc p) bs) (p ∷ []) g (each-one most p (omega arith))
 
 -- A verdict and the places.
 record Wipes (r : Mended) : Type 0 where
@@ -268,7 +268,7 @@ mended-wipes sheet area =
     (λ h l i. record { verdict = tt; places = zeros-up-to 8192 })
     (λ h l i. record {
       verdict = tt;
-      places = each-take 8192 3 (stains (l .place) (drop (l .place) area) ++ (0 ∷ 0 ∷ 0 ∷ [])) (each-append 8192 (stains (l .place) (drop (l .place) area)) (0 ∷ 0 ∷ 0 ∷ []) (stains-up-to 8192 (l .place) (drop (l .place) area) (omega (arith, length-drop (l .place) area))) (zeros-up-to 8192));
+      places = each-take 8192 3 (wipePlaces (l .place) (drop (l .place) area) ++ (0 ∷ 0 ∷ 0 ∷ [])) (each-append 8192 (wipePlaces (l .place) (drop (l .place) area)) (0 ∷ 0 ∷ 0 ∷ []) (wipe-places-up-to 8192 (l .place) (drop (l .place) area) (omega (arith, length-drop (l .place) area))) (zeros-up-to 8192));
     })
     (λ h l i. record { verdict = omega arith; places = zeros-up-to 8192 }))
 
@@ -288,7 +288,7 @@ rows-small t count h e = rw e at h
 pub tabled-refused-small : (t : Tabled) (number value : ℕ) → SmallTabled t → t ≡ table.Refused number value → value ≤ 8192
 tabled-refused-small t number value h e = rw e at h
 
-module _ (s : Season) (sown : Sown s) (out : List ℕ) where
+module _ (s : Season) (sown : AcceptedSeason s) (out : List ℕ) where
   -- Refusal 16 carries a season day.
   to-small : (e most : ℕ) (p : Plan) → most ≤ 8192 → ((f : ℕ) → p ≡ refused f → f ≤ most) → SmallPlanned (answerTo e out p .0)
   unfolding answerTo

@@ -22,11 +22,12 @@ use Rattle.decades.specs.declared.Tabled.the-variants as table
 use Rattle.decades.specs.Table as decades
 use Rattle.controller.specs.Calls.{sheetOpened, sheetRecorded, sheetMended, sheetPlanned, sheetTabled}
 use Rattle.controller.proofs.Claims as controller
-use Rattle.exports.specs.Written.{over, verdictThen, mendedWords}
+use Rattle.verdict.specs.Refusals.{numbersThen}
+use Rattle.exports.specs.Written.{writtenOver, mendedOut}
 use Rattle.exports.specs.Claims.{Claims}
 use Rattle.exports.proofs.Bounds.{opened-small, recorded-small, mended-small, planned-small, tabled-small}
 
-over-first : (ns out : List ℕ) → length ns ≤ length out → over ns out ≡ ns ++ drop (length ns) out
+over-first : (ns out : List ℕ) → length ns ≤ length out → writtenOver ns out ≡ ns ++ drop (length ns) out
 over-first ns out h =
     let z : 0 + length ns ≡ length ns = omega arith in
     sets-eq ns out 0 (omega arith) ∙ ap (λ (k : ℕ). ns ++ drop k out) z
@@ -46,27 +47,27 @@ tabled-length : (t : Tabled) → length (decades.numbersOf t) ≤ 12
 tabled-length (table.Rows count) = omega arith
 tabled-length (table.Refused number value) = omega arith
 
-stores-length : (v : Verdict) (w : Stores) → StoresOccur v w → length (verdictThen v (w .start ∷ w .count ∷ w .bytes)) ≤ 12
+stores-length : (v : Verdict) (w : Stores) → StoresOccur v w → length (numbersThen v (w .start ∷ w .count ∷ w .bytes)) ≤ 12
 stores-length Accepted w h = omega (arith, h .four)
 stores-length (Refused number value) w h = omega arith
 
-places-length : (v : Verdict) (r : Mended) → Placed r → length (verdictThen v (r .count ∷ r .places)) ≤ 12
-places-length Accepted r h = omega (arith, h .three)
+places-length : (v : Verdict) (r : Mended) → Placed r → length (numbersThen v (r .count ∷ r .places)) ≤ 12
+places-length Accepted r h = omega (arith, h .size)
 places-length (Refused number value) r h = omega arith
 
 -- ---- one to one
 
-judged-one : (v u : Verdict) (w x : Stores) → StoresOccur v w → StoresOccur u x
-    → verdictThen v (w .start ∷ w .count ∷ w .bytes) ≡ verdictThen u (x .start ∷ x .count ∷ x .bytes)
+recorded-with-one : (v u : Verdict) (w x : Stores) → StoresOccur v w → StoresOccur u x
+    → numbersThen v (w .start ∷ w .count ∷ w .bytes) ≡ numbersThen u (x .start ∷ x .count ∷ x .bytes)
     → _≡_ {A = Recorded} (record { verdict = v; stores = w }) (record { verdict = u; stores = x })
-judged-one Accepted Accepted w x a b e =
+recorded-with-one Accepted Accepted w x a b e =
     let s : w .start ≡ x .start = cc in
     let n : w .count ≡ x .count = cc in
     let t : w .bytes ≡ x .bytes = cc in
     λ i. record { verdict = Accepted; stores = record { bytes = t i; start = s i; count = n i } }
-judged-one Accepted (Refused number value) w x a b e = absurd (let z : 0 ≡ number = cc in omega (arith, b .0))
-judged-one (Refused number value) Accepted w x a b e = absurd (let z : number ≡ 0 = cc in omega (arith, a .0))
-judged-one (Refused n v) (Refused number value) w x a b e =
+recorded-with-one Accepted (Refused number value) w x a b e = absurd (let z : 0 ≡ number = cc in omega (arith, b .0))
+recorded-with-one (Refused number value) Accepted w x a b e = absurd (let z : number ≡ 0 = cc in omega (arith, a .0))
+recorded-with-one (Refused n v) (Refused number value) w x a b e =
     let p : n ≡ number = cc in
     let q : v ≡ value = cc in
     let s : w ≡ x = a .1 ∙ sym (b .1) in
@@ -78,7 +79,7 @@ none-placed ps n z h = h ∙ ap (λ (k : ℕ). take k ps ++ replicate (3 - k) 0)
 
 wiped-one : (v u : Verdict) (ps qs : List ℕ) (m n : ℕ) → WipesOccur v m → WipesOccur u n
     → ps ≡ take m ps ++ replicate (3 - m) 0 → qs ≡ take n qs ++ replicate (3 - n) 0
-    → verdictThen v (m ∷ ps) ≡ verdictThen u (n ∷ qs) → (v ≡ u) × (m ≡ n) × (ps ≡ qs)
+    → numbersThen v (m ∷ ps) ≡ numbersThen u (n ∷ qs) → (v ≡ u) × (m ≡ n) × (ps ≡ qs)
 wiped-one Accepted Accepted ps qs m n a b f g e =
     let k : m ≡ n = cc in
     let t : ps ≡ qs = cc in
@@ -90,7 +91,7 @@ wiped-one (Refused k w) (Refused number value) ps qs m n a b f g e =
     let q : w ≡ value = cc in
     (λ i. Refused (p i) (q i), a .1 ∙ sym (b .1), none-placed ps m (a .1) f ∙ sym (none-placed qs n (b .1) g))
 
-mended-one : (q r : Mended) → MendedOccurs q → MendedOccurs r → mendedWords q ≡ mendedWords r → q ≡ r
+mended-one : (q r : Mended) → MendedOccurs q → MendedOccurs r → mendedOut q ≡ mendedOut r → q ≡ r
 mended-one q r a b e =
     let w = wiped-one (q .verdict) (r .verdict) (q .places) (r .places) (q .count) (r .count) (a .1) (b .1) (a .0 .rest) (b .0 .rest) e in
     λ i. record { verdict = w .0 i; places = w .2 i; count = w .1 i }
@@ -108,6 +109,6 @@ claims = record {
   mended-small = mended-small;
   planned-small = planned-small;
   tabled-small = tabled-small;
-  recorded-one-to-one = λ q r a b e. judged-one (q .verdict) (r .verdict) (q .stores) (r .stores) a b e;
+  recorded-one-to-one = λ q r a b e. recorded-with-one (q .verdict) (r .verdict) (q .stores) (r .stores) a b e;
   mended-one-to-one = mended-one;
 }

@@ -9,15 +9,15 @@ use Rattle.planner.specs.declared.Planned.{Planned}
 use Rattle.planner.specs.Answer as planner
 use Rattle.decades.specs.declared.Tabled.{Tabled}
 use Rattle.decades.specs.Table as decades
-use Rattle.exports.specs.Written.{over, overPlanned, overTabled}
+use Rattle.exports.specs.Written.{writtenOver, plannedOver, tabledOver}
 
 -- Two numbers, then those behind them: the numbers of an answer.
 module _ (out : List ℕ) {first : List ℕ} {a b : ℕ} (two : first ≡ sets out 0 (a ∷ b ∷ [])) where
-  pub put-refusal : {ws : List ℕ} → ws ≡ a ∷ b ∷ [] → first ≡ over ws out
-  put-refusal e = two ∙ ap (λ (vs : List ℕ). over vs out) (sym e)
+  pub put-refusal : {ws : List ℕ} → ws ≡ a ∷ b ∷ [] → first ≡ writtenOver ws out
+  put-refusal e = two ∙ ap (λ (vs : List ℕ). writtenOver vs out) (sym e)
 
-  pub put-answer : {last ws : List ℕ} (ns : List ℕ) → last ≡ sets first 2 ns → ws ≡ a ∷ b ∷ ns → last ≡ over ws out
-  put-answer ns more e = more ∙ ap (λ (l : List ℕ). sets l 2 ns) two ∙ ap (λ (vs : List ℕ). over vs out) (sym e)
+  pub put-answer : {last ws : List ℕ} (ns : List ℕ) → last ≡ sets first 2 ns → ws ≡ a ∷ b ∷ ns → last ≡ writtenOver ws out
+  put-answer ns more e = more ∙ ap (λ (l : List ℕ). sets l 2 ns) two ∙ ap (λ (vs : List ℕ). writtenOver vs out) (sym e)
 
 -- An array's numbers, one by one.
 three-are : (xs : List ℕ) → length xs ≡ 3 → getD xs 0 0 ∷ getD xs 1 0 ∷ getD xs 2 0 ∷ [] ≡ xs
@@ -39,13 +39,13 @@ stores-put out start count bytes four p q r s =
 
 pub places-put : (out : List ℕ) (count : ℕ) (places : List ℕ) → length places ≡ 3
     → sets out 2 (count ∷ getD places 0 0 ∷ getD places 1 0 ∷ getD places 2 0 ∷ []) ≡ sets out 2 (count ∷ places)
-places-put out count places three = ap (λ (ps : List ℕ). sets out 2 (count ∷ ps)) (three-are places three)
+places-put out count places size = ap (λ (ps : List ℕ). sets out 2 (count ∷ ps)) (three-are places size)
 
 -- The array and the lent buffer, once both are what they should be.
 pub planned-written : (out : List ℕ) {p : Planned} {buffer last : List ℕ} {a : Planned × List ℕ} → (p, buffer) ≡ a
-    → last ≡ over (planner.numbersOf p) out → (last, buffer) ≡ overPlanned out a
-planned-written out {p} {buffer} e w = ap (λ (l : List ℕ). (l, buffer)) w ∙ ap (λ (b : Planned × List ℕ). overPlanned out b) e
+    → last ≡ writtenOver (planner.numbersOf p) out → (last, buffer) ≡ plannedOver out a
+planned-written out {p} {buffer} e w = ap (λ (l : List ℕ). (l, buffer)) w ∙ ap (λ (b : Planned × List ℕ). plannedOver out b) e
 
 pub tabled-written : (out : List ℕ) {t : Tabled} {buffer last : List ℕ} {a : Tabled × List ℕ} → (t, buffer) ≡ a
-    → last ≡ over (decades.numbersOf t) out → (last, buffer) ≡ overTabled out a
-tabled-written out {t} {buffer} e w = ap (λ (l : List ℕ). (l, buffer)) w ∙ ap (λ (b : Tabled × List ℕ). overTabled out b) e
+    → last ≡ writtenOver (decades.numbersOf t) out → (last, buffer) ≡ tabledOver out a
+tabled-written out {t} {buffer} e w = ap (λ (l : List ℕ). (l, buffer)) w ∙ ap (λ (b : Tabled × List ℕ). tabledOver out b) e

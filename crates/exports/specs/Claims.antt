@@ -11,16 +11,16 @@ use Rattle.journal.specs.Claims.{RecordedOccurs, MendedOccurs}
 use Rattle.planner.specs.Answer as planner
 use Rattle.decades.specs.Table as decades
 use Rattle.controller.specs.Calls.{sheetOpened, sheetRecorded, sheetMended, sheetPlanned, sheetTabled}
-use Rattle.exports.specs.Written.{over, recordedWords, mendedWords}
+use Rattle.exports.specs.Written.{writtenOver, recordedOut, mendedOut}
 use Rattle.exports.specs.Small.{SmallOpening, SmallRecorded, SmallMended, SmallPlanned, SmallTabled}
 
 pub record Claims : Type 0 where
   -- Numbers that an array has room for stand first in it, and what stood beyond them stays.
-  pub over-first : (ns out : List ℕ) → length ns ≤ length out → over ns out ≡ ns ++ drop (length ns) out
+  pub over-first : (ns out : List ℕ) → length ns ≤ length out → writtenOver ns out ≡ ns ++ drop (length ns) out
   -- Twelve numbers have room for every answer.
   pub opened-fits : (sheet area : List ℕ) → length (opened.numbersOf (sheetOpened sheet area)) ≤ 12
-  pub recorded-fits : (sheet area : List ℕ) (e : Entry) → length (recordedWords (sheetRecorded sheet area e)) ≤ 12
-  pub mended-fits : (sheet area : List ℕ) → length (mendedWords (sheetMended sheet area)) ≤ 12
+  pub recorded-fits : (sheet area : List ℕ) (e : Entry) → length (recordedOut (sheetRecorded sheet area e)) ≤ 12
+  pub mended-fits : (sheet area : List ℕ) → length (mendedOut (sheetMended sheet area)) ≤ 12
   pub planned-fits : (sheet area depths : List ℕ) → length (planner.numbersOf (sheetPlanned sheet area depths .0)) ≤ 12
   pub tabled-fits : (sheet rows : List ℕ) → length (decades.numbersOf (sheetTabled sheet rows .0)) ≤ 12
   -- No place, count or number returned with a refusal passes 8,192.
@@ -30,5 +30,5 @@ pub record Claims : Type 0 where
   pub planned-small : (sheet area depths : List ℕ) → SmallPlanned (sheetPlanned sheet area depths .0)
   pub tabled-small : (sheet rows : List ℕ) → SmallTabled (sheetTabled sheet rows .0)
   -- The numberings made here are one to one on the answers that occur.
-  pub recorded-one-to-one : (q r : Recorded) → RecordedOccurs q → RecordedOccurs r → recordedWords q ≡ recordedWords r → q ≡ r
-  pub mended-one-to-one : (q r : Mended) → MendedOccurs q → MendedOccurs r → mendedWords q ≡ mendedWords r → q ≡ r
+  pub recorded-one-to-one : (q r : Recorded) → RecordedOccurs q → RecordedOccurs r → recordedOut q ≡ recordedOut r → q ≡ r
+  pub mended-one-to-one : (q r : Mended) → MendedOccurs q → MendedOccurs r → mendedOut q ≡ mendedOut r → q ≡ r

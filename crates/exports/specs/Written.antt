@@ -3,8 +3,7 @@
 use Prim.Native.Nat.{ℕ}
 use mathlib.Core.List.{List, [], _∷_}
 use lib.Seq.{sets}
-use Rattle.verdict.specs.declared.Verdict.{Verdict}
-use Rattle.verdict.specs.declared.Verdict.the-variants.{Accepted, Refused}
+use Rattle.verdict.specs.Refusals.{numbersThen}
 use Rattle.journal.specs.declared.Recorded.{Recorded}
 use Rattle.journal.specs.declared.Mended.{Mended}
 use Rattle.planner.specs.declared.Planned.{Planned}
@@ -13,25 +12,20 @@ use Rattle.decades.specs.declared.Tabled.{Tabled}
 use Rattle.decades.specs.Table as decades
 
 -- Numbers over the first numbers of an array; those beyond keep what they held.
-abbrev pub over : List ℕ → List ℕ → List ℕ
-over ns out = sets out 0 ns
-
--- Where accepted 0, 0 and the numbers of an answer; else the refusal's number and the number returned with it.
-abbrev pub verdictThen : Verdict → List ℕ → List ℕ
-verdictThen Accepted ns = 0 ∷ 0 ∷ ns
-verdictThen (Refused number value) ns = number ∷ value ∷ []
+abbrev pub writtenOver : List ℕ → List ℕ → List ℕ
+writtenOver ns out = sets out 0 ns
 
 -- Rain, irrigation and close: the start, the count and four bytes, 0 past the count.
-abbrev pub recordedWords : Recorded → List ℕ
-recordedWords r = verdictThen (r .verdict) (r .stores .start ∷ r .stores .count ∷ r .stores .bytes)
+abbrev pub recordedOut : Recorded → List ℕ
+recordedOut r = numbersThen (r .verdict) (r .stores .start ∷ r .stores .count ∷ r .stores .bytes)
 
 -- Mend: the count and three places, highest first, 0 past the count.
-abbrev pub mendedWords : Mended → List ℕ
-mendedWords r = verdictThen (r .verdict) (r .count ∷ r .places)
+abbrev pub mendedOut : Mended → List ℕ
+mendedOut r = numbersThen (r .verdict) (r .count ∷ r .places)
 
 -- Plan and table: the array and the lent buffer, of the answer and the buffer that the controller gives.
-abbrev pub overPlanned : List ℕ → Planned × List ℕ → List ℕ × List ℕ
-overPlanned out a = (over (planner.numbersOf (a .0)) out, a .1)
+abbrev pub plannedOver : List ℕ → Planned × List ℕ → List ℕ × List ℕ
+plannedOver out a = (writtenOver (planner.numbersOf (a .0)) out, a .1)
 
-abbrev pub overTabled : List ℕ → Tabled × List ℕ → List ℕ × List ℕ
-overTabled out a = (over (decades.numbersOf (a .0)) out, a .1)
+abbrev pub tabledOver : List ℕ → Tabled × List ℕ → List ℕ × List ℕ
+tabledOver out a = (writtenOver (decades.numbersOf (a .0)) out, a .1)

@@ -19,7 +19,7 @@ ghost use Rattle.journal.specs.Opening as opened;
 ghost use Rattle.planner.specs.Answer as planned;
 ghost use Rattle.decades.specs.Table as tabled;
 ghost use Rattle.controller.specs.Calls.{sheetOpened, sheetRecorded, sheetMended, sheetPlanned, sheetTabled};
-ghost use Rattle.exports.specs.Written.{over, recordedWords, mendedWords, overPlanned, overTabled};
+ghost use Rattle.exports.specs.Written.{writtenOver, recordedOut, mendedOut, plannedOver, tabledOver};
 ghost use Rattle.exports.specs.Small.{SmallOpening, SmallRecorded, SmallMended, SmallPlanned, SmallTabled};
 
 // ---- an answer's numbers
@@ -40,8 +40,8 @@ fn put_ledger(out: &mut [u32; 12], l: Ledger)
 {
     out[2] = l.day;
     out[3] = l.depletion;
-    out[4] = l.waitingrain;
-    out[5] = l.waitingirrigation;
+    out[4] = l.waiting_rain;
+    out[5] = l.waiting_irrigation;
     out[6] = l.rain;
     out[7] = l.irrigation;
     out[8] = l.used;
@@ -51,7 +51,7 @@ fn put_ledger(out: &mut [u32; 12], l: Ledger)
 
 fn put_opening(out: &mut [u32; 12], o: Opening)
     requires { ⌜ SmallOpening o ⌝ }
-    ensures { λ _. ⌜ now (out .exit) ≡ over (opened.numbersOf o) (now (out .entry)) ⌝ }
+    ensures { λ _. ⌜ now (out .exit) ≡ writtenOver (opened.numbersOf o) (now (out .entry)) ⌝ }
 {
     match o {
         Opening::Clean(l) => {
@@ -87,7 +87,7 @@ fn put_stores(out: &mut [u32; 12], bytes: [u8; 4], start: usize, count: usize)
 
 fn put_recorded(out: &mut [u32; 12], r: Recorded)
     requires { ⌜ SmallRecorded r ⌝ }
-    ensures { λ _. ⌜ now (out .exit) ≡ over (recordedWords r) (now (out .entry)) ⌝ }
+    ensures { λ _. ⌜ now (out .exit) ≡ writtenOver (recordedOut r) (now (out .entry)) ⌝ }
 {
     let verdict = r.verdict;
     let stores = r.stores;
@@ -114,7 +114,7 @@ fn put_places(out: &mut [u32; 12], places: [usize; 3], count: usize)
 
 fn put_mended(out: &mut [u32; 12], r: Mended)
     requires { ⌜ SmallMended r ⌝ }
-    ensures { λ _. ⌜ now (out .exit) ≡ over (mendedWords r) (now (out .entry)) ⌝ }
+    ensures { λ _. ⌜ now (out .exit) ≡ writtenOver (mendedOut r) (now (out .entry)) ⌝ }
 {
     let verdict = r.verdict;
     let places = r.places;
@@ -129,7 +129,7 @@ fn put_mended(out: &mut [u32; 12], r: Mended)
 
 fn put_planned(out: &mut [u32; 12], p: Planned)
     requires { ⌜ SmallPlanned p ⌝ }
-    ensures { λ _. ⌜ now (out .exit) ≡ over (planned.numbersOf p) (now (out .entry)) ⌝ }
+    ensures { λ _. ⌜ now (out .exit) ≡ writtenOver (planned.numbersOf p) (now (out .entry)) ⌝ }
 {
     match p {
         Planned::Made(waterings, net, gross) => {
@@ -144,7 +144,7 @@ fn put_planned(out: &mut [u32; 12], p: Planned)
 
 fn put_tabled(out: &mut [u32; 12], t: Tabled)
     requires { ⌜ SmallTabled t ⌝ }
-    ensures { λ _. ⌜ now (out .exit) ≡ over (tabled.numbersOf t) (now (out .entry)) ⌝ }
+    ensures { λ _. ⌜ now (out .exit) ≡ writtenOver (tabled.numbersOf t) (now (out .entry)) ⌝ }
 {
     match t {
         Tabled::Rows(count) => {
@@ -159,61 +159,61 @@ fn put_tabled(out: &mut [u32; 12], t: Tabled)
 
 // Clean or torn: open day, depletion, waiting rain, waiting irrigation, season rain, irrigation, use, percolation, place. Refusals 1 to 9.
 #[no_mangle]
-pub extern "C" fn controller_open(sheet: &[u8], area: &[u8], out: &mut [u32; 12])
-    ensures { λ _. ⌜ now (out .exit) ≡ over (opened.numbersOf (sheetOpened (now (sheet .entry)) (now (area .entry)))) (now (out .entry)) ⌝ }
+pub extern "C" fn balladsky_open(sheet: &[u8], area: &[u8], out: &mut [u32; 12])
+    ensures { λ _. ⌜ now (out .exit) ≡ writtenOver (opened.numbersOf (sheetOpened (now (sheet .entry)) (now (area .entry)))) (now (out .entry)) ⌝ }
 {
     put_opening(out, controller::open(sheet, area));
 }
 
 // Start, count, four bytes. Refusals 1 to 14.
 #[no_mangle]
-pub extern "C" fn controller_rain(sheet: &[u8], area: &[u8], amount: u32, out: &mut [u32; 12])
-    ensures { λ _. ⌜ now (out .exit) ≡ over (recordedWords (sheetRecorded (now (sheet .entry)) (now (area .entry)) (Water Rain amount))) (now (out .entry)) ⌝ }
+pub extern "C" fn balladsky_rain(sheet: &[u8], area: &[u8], amount: u32, out: &mut [u32; 12])
+    ensures { λ _. ⌜ now (out .exit) ≡ writtenOver (recordedOut (sheetRecorded (now (sheet .entry)) (now (area .entry)) (Water Rain amount))) (now (out .entry)) ⌝ }
 {
     put_recorded(out, controller::rain(sheet, area, amount));
 }
 
 // Start, count, four bytes. Refusals 1 to 14.
 #[no_mangle]
-pub extern "C" fn controller_irrigation(sheet: &[u8], area: &[u8], amount: u32, out: &mut [u32; 12])
-    ensures { λ _. ⌜ now (out .exit) ≡ over (recordedWords (sheetRecorded (now (sheet .entry)) (now (area .entry)) (Water Irrigation amount))) (now (out .entry)) ⌝ }
+pub extern "C" fn balladsky_irrigation(sheet: &[u8], area: &[u8], amount: u32, out: &mut [u32; 12])
+    ensures { λ _. ⌜ now (out .exit) ≡ writtenOver (recordedOut (sheetRecorded (now (sheet .entry)) (now (area .entry)) (Water Irrigation amount))) (now (out .entry)) ⌝ }
 {
     put_recorded(out, controller::irrigation(sheet, area, amount));
 }
 
 // Start, count, four bytes. Refusals 1 to 11, and 14.
 #[no_mangle]
-pub extern "C" fn controller_close(sheet: &[u8], area: &[u8], out: &mut [u32; 12])
-    ensures { λ _. ⌜ now (out .exit) ≡ over (recordedWords (sheetRecorded (now (sheet .entry)) (now (area .entry)) Close)) (now (out .entry)) ⌝ }
+pub extern "C" fn balladsky_close(sheet: &[u8], area: &[u8], out: &mut [u32; 12])
+    ensures { λ _. ⌜ now (out .exit) ≡ writtenOver (recordedOut (sheetRecorded (now (sheet .entry)) (now (area .entry)) Close)) (now (out .entry)) ⌝ }
 {
     put_recorded(out, controller::close(sheet, area));
 }
 
 // Count, three places, highest first. Refusals 1 to 9.
 #[no_mangle]
-pub extern "C" fn controller_mend(sheet: &[u8], area: &[u8], out: &mut [u32; 12])
-    ensures { λ _. ⌜ now (out .exit) ≡ over (mendedWords (sheetMended (now (sheet .entry)) (now (area .entry)))) (now (out .entry)) ⌝ }
+pub extern "C" fn balladsky_mend(sheet: &[u8], area: &[u8], out: &mut [u32; 12])
+    ensures { λ _. ⌜ now (out .exit) ≡ writtenOver (mendedOut (sheetMended (now (sheet .entry)) (now (area .entry)))) (now (out .entry)) ⌝ }
 {
     put_mended(out, controller::mend(sheet, area));
 }
 
 // Waterings, net, gross; a depth for each remaining day in the lent buffer. Refusals 1 to 11, 15 and 16.
 #[no_mangle]
-pub extern "C" fn controller_plan(
+pub extern "C" fn balladsky_plan(
     sheet: &[u8],
     area: &[u8],
     depths: &mut [u32],
     out: &mut [u32; 12],
 )
-    ensures { λ _. ⌜ (now (out .exit), now (depths .exit)) ≡ overPlanned (now (out .entry)) (sheetPlanned (now (sheet .entry)) (now (area .entry)) (now (depths .entry))) ⌝ }
+    ensures { λ _. ⌜ (now (out .exit), now (depths .exit)) ≡ plannedOver (now (out .entry)) (sheetPlanned (now (sheet .entry)) (now (area .entry)) (now (depths .entry))) ⌝ }
 {
     put_planned(out, controller::plan(sheet, area, depths));
 }
 
 // Rows; six numbers a row in the lent buffer. Refusals 1 to 7, and 15.
 #[no_mangle]
-pub extern "C" fn controller_table(sheet: &[u8], rows: &mut [u32], out: &mut [u32; 12])
-    ensures { λ _. ⌜ (now (out .exit), now (rows .exit)) ≡ overTabled (now (out .entry)) (sheetTabled (now (sheet .entry)) (now (rows .entry))) ⌝ }
+pub extern "C" fn balladsky_table(sheet: &[u8], rows: &mut [u32], out: &mut [u32; 12])
+    ensures { λ _. ⌜ (now (out .exit), now (rows .exit)) ≡ tabledOver (now (out .entry)) (sheetTabled (now (sheet .entry)) (now (rows .entry))) ⌝ }
 {
     put_tabled(out, controller::table(sheet, rows));
 }

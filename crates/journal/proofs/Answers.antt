@@ -1,5 +1,5 @@
 -- What the calls answer, by what the opening found.
-use Rattle.season.specs.Day.{Sown}
+use Rattle.season.specs.Day.{AcceptedSeason}
 use Prim.Native.Nat.{_+_, _-_, _<_, _≤_, suc, ℕ}
 use mathlib.Core.Path.{_∙_, _≡_, ap, ap₂, refl, sym}
 use mathlib.Core.List.{List, [], _++_, _∷_}
@@ -22,17 +22,16 @@ use Rattle.journal.specs.declared.Stores.{Stores}
 use Rattle.journal.specs.declared.Recorded.{Recorded}
 use Rattle.journal.specs.declared.Mended.{Mended}
 use Rattle.journal.specs.Entries.{refusal}
-use Rattle.journal.specs.Opening.{behind, blank, opening, replayed, tornAt, trim, value}
-use Rattle.journal.specs.Words.{clean}
-use Rattle.journal.specs.Calls.{judged, mendOf, mended, mendedOn, noStores, recorded, recordedOn, stains, storesOf}
-use Rattle.journal.specs.Book.{told}
-use Rattle.journal.specs.Inside.{Within}
+use Rattle.journal.specs.Opening.{behind, isBlank, opening, replayed, tornAt, trim, value}
+use Rattle.journal.specs.Specified.{clean}
+use Rattle.journal.specs.Calls.{recordedWith, mendOf, mended, mendedOn, noStores, recorded, recordedOn, wipePlaces, storesOf}
+use Rattle.journal.specs.Carried.{Bounded}
 use Rattle.journal.proofs.Beginnings.{torn-few}
 use Rattle.journal.proofs.Cases.{number, test}
 use Rattle.journal.proofs.Literal.{trim-is}
 use Rattle.journal.proofs.Sums.{replayed-place, replayed-rest, replayed-within}
 use Rattle.journal.proofs.Trims.{trim-le}
-use Rattle.journal.proofs.Writing.{stains-blank, stains-other, stains-replicate}
+use Rattle.journal.proofs.Writing.{wipe-places-blank, wipe-places-other, wipe-places-replicate}
 use Rattle.verdict.specs.declared.Verdict.the-variants as verdict
 use Rattle.journal.specs.declared.Opening.the-variants as opened
 
@@ -53,20 +52,20 @@ module _ (s : Season) (area : List ℕ) where
 found-clean : (days size : ℕ) (l k : Ledger) (s : List ℕ) → behind days size l s ≡ Clean k → l ≡ k
 unfolding behind
 found-clean days size l k s h =
-    test (blank s) (λ i. let h′ = rw (i, behind) at h in cc)
+    test (isBlank s) (λ i. let h′ = rw (i, behind) at h in cc)
     (λ i. test (tornAt days size l (trim s)) (λ j. absurd (let h′ = rw (i, behind, j) at h in let z : _≡_ {A = ℕ} 0 1 = cc in omega arith))
     (λ j. absurd (let h′ = rw (i, behind, j) at h in let z : _≡_ {A = ℕ} 0 1 = cc in omega arith)))
 
 found-torn : (days size : ℕ) (l k : Ledger) (p : ℕ) (s : List ℕ) → behind days size l s ≡ Torn k p → (l .place ≡ p) × (tornAt days size l (trim s) ≡ true)
 unfolding behind
 found-torn days size l k p s h =
-    test (blank s) (λ i. absurd (let h′ = rw (i, behind) at h in let z : _≡_ {A = ℕ} 0 1 = cc in omega arith))
+    test (isBlank s) (λ i. absurd (let h′ = rw (i, behind) at h in let z : _≡_ {A = ℕ} 0 1 = cc in omega arith))
     (λ i. test (tornAt days size l (trim s)) (λ j. (let h′ = rw (i, behind, j) at h in cc, j))
     (λ j. absurd (let h′ = rw (i, behind, j) at h in let z : _≡_ {A = ℕ} 0 1 = cc in omega arith)))
 
-module _ (s : Season) (area : List ℕ) (v : Sown s) where
+module _ (s : Season) (area : List ℕ) (v : AcceptedSeason s) where
   -- a clean opening's ledger is in its ranges
-  pub clean-within : (o : Opening) (l : Ledger) → o ≡ opening s area → o ≡ Clean l → Within s l
+  pub clean-within : (o : Opening) (l : Ledger) → o ≡ opening s area → o ≡ Clean l → Bounded s l
   unfolding opening
   clean-within o l q e =
       let h = sym q ∙ e in
@@ -101,23 +100,23 @@ module _ (s : Season) (area : List ℕ) (e : Entry) (o : Opening) (is : o ≡ op
   on-opening = ap (recordedOn (seasonDays s) (length area) e) (sym is)
 
   module _ (l : Ledger) (clean : o ≡ Clean l) (days : ℕ) (n : days ≡ seasonDays s) (d : Verdict) (told : d ≡ refusal days (length area) l e) where
-    on-clean : recorded s area e ≡ judged d (storesOf l e)
+    on-clean : recorded s area e ≡ recordedWith d (storesOf l e)
     unfolding recordedOn
     on-clean = on-opening ∙ rw (clean, ← n, ← told)
 
     pub records : d ≡ Accepted → (w : Stores) → w ≡ storesOf l e → record { verdict = Accepted; stores = w } ≡ recorded s area e
-    unfolding judged
+    unfolding recordedWith
     records h w q = sym (on-clean ∙ rw (h, ← q))
 
-    pub declines : (number value : ℕ) → d ≡ verdict.Refused number value → (r : Recorded) → r ≡ judged (verdict.Refused number value) noStores → r ≡ recorded s area e
-    unfolding judged
+    pub declines : (number value : ℕ) → d ≡ verdict.Refused number value → (r : Recorded) → r ≡ recordedWith (verdict.Refused number value) noStores → r ≡ recorded s area e
+    unfolding recordedWith
     declines number value h r q = q ∙ sym (on-clean ∙ rw h)
 
-  pub declines-torn : (l : Ledger) (p : ℕ) → o ≡ Torn l p → (r : Recorded) → r ≡ judged (verdict.Refused 10 p) noStores → r ≡ recorded s area e
+  pub declines-torn : (l : Ledger) (p : ℕ) → o ≡ Torn l p → (r : Recorded) → r ≡ recordedWith (verdict.Refused 10 p) noStores → r ≡ recorded s area e
   unfolding recordedOn
   declines-torn l p h r q = q ∙ sym (on-opening ∙ rw h)
 
-  pub declines-damaged : (number p : ℕ) → o ≡ opened.Refused number p → (r : Recorded) → r ≡ judged (verdict.Refused number p) noStores → r ≡ recorded s area e
+  pub declines-damaged : (number p : ℕ) → o ≡ opened.Refused number p → (r : Recorded) → r ≡ recordedWith (verdict.Refused number p) noStores → r ≡ recorded s area e
   unfolding recordedOn
   declines-damaged number p h r q = q ∙ sym (on-opening ∙ rw h)
 
@@ -132,9 +131,9 @@ module _ (s : Season) (area : List ℕ) (o : Opening) (is : o ≡ opening s area
   unfolding mendedOn
   mends-clean l h = sym (mend-on ∙ rw h)
 
-  pub mends-torn : (l : Ledger) (p : ℕ) → o ≡ Torn l p → (r : Mended) → r ≡ mendOf (stains p (take (length area - p) (drop p area))) → r ≡ mended s area
+  pub mends-torn : (l : Ledger) (p : ℕ) → o ≡ Torn l p → (r : Mended) → r ≡ mendOf (wipePlaces p (take (length area - p) (drop p area))) → r ≡ mended s area
   unfolding mendedOn
-  mends-torn l p h r q = q ∙ ap (λ (t : List ℕ). mendOf (stains p t)) (tail-part p area) ∙ sym (mend-on ∙ rw h)
+  mends-torn l p h r q = q ∙ ap (λ (t : List ℕ). mendOf (wipePlaces p t)) (tail-part p area) ∙ sym (mend-on ∙ rw h)
 
   pub mends-damaged : (number p : ℕ) → o ≡ opened.Refused number p → record { verdict = verdict.Refused number p; places = 0 ∷ 0 ∷ 0 ∷ []; count = 0 } ≡ mended s area
   unfolding mendedOn
@@ -147,19 +146,19 @@ pub record Wiped (tail : List ℕ) (place n : ℕ) (places : List ℕ) (count i 
   pub few : n ≤ 3
   pub area : place + length tail ≤ 8192
   pub fewer : count ≤ i
-  pub counted : count ≡ length (stains (place + (n - i)) (drop (n - i) tail))
-  pub stored : places ≡ take 3 (stains (place + (n - i)) (drop (n - i) tail) ++ (0 ∷ 0 ∷ 0 ∷ []))
+  pub counted : count ≡ length (wipePlaces (place + (n - i)) (drop (n - i) tail))
+  pub stored : places ≡ take 3 (wipePlaces (place + (n - i)) (drop (n - i) tail) ++ (0 ∷ 0 ∷ 0 ∷ []))
 
-behind-trim : (p : ℕ) (s : List ℕ) → stains p (drop (length (trim s)) s) ≡ []
+behind-trim : (p : ℕ) (s : List ℕ) → wipePlaces p (drop (length (trim s)) s) ≡ []
 behind-trim p s =
     let r = trim-is s in
-    ap (λ (x : List ℕ). stains p (drop (length (trim s)) x)) (r .1) ∙ rw (drop-append-seam (trim s) (replicate (r .0) 255)) (stains-replicate p (r .0))
+    ap (λ (x : List ℕ). wipePlaces p (drop (length (trim s)) x)) (r .1) ∙ rw (drop-append-seam (trim s) (replicate (r .0) 255)) (wipe-places-replicate p (r .0))
 
 pub wiped-none : (tail : List ℕ) (place n : ℕ) → n ≡ length (trim tail) → length (trim tail) ≤ 3 → place + length tail ≤ 8192
     → Wiped tail place n (0 ∷ 0 ∷ 0 ∷ []) 0 0
 wiped-none tail place n e few area =
     let z : n - 0 ≡ length (trim tail) = omega arith in
-    let b : stains (place + (n - 0)) (drop (n - 0) tail) ≡ [] = ap₂ (λ (p k : ℕ). stains p (drop k tail)) refl z ∙ behind-trim (place + (n - 0)) tail in
+    let b : wipePlaces (place + (n - 0)) (drop (n - 0) tail) ≡ [] = ap₂ (λ (p k : ℕ). wipePlaces p (drop k tail)) refl z ∙ behind-trim (place + (n - 0)) tail in
     record { within = omega arith; all = e; few = omega arith; area = area; fewer = omega arith; counted = rw b; stored = rw b }
 
 stored-next : (ps : List ℕ) (n p : ℕ) → n ≡ length ps → n < 3 → set (take 3 (ps ++ (0 ∷ 0 ∷ 0 ∷ []))) n p ≡ take 3 ((ps ++ (p ∷ [])) ++ (0 ∷ 0 ∷ 0 ∷ []))
@@ -173,25 +172,25 @@ module _ {tail : List ℕ} {place n : ℕ} {places : List ℕ} {count i : ℕ} (
   wiped-inside = omega (arith, w .all, trim-le tail)
 
   abbrev seen : List ℕ
-  seen = stains (place + (n - i)) (drop (n - i) tail)
+  seen = wipePlaces (place + (n - i)) (drop (n - i) tail)
 
-  wiped-step : stains (place + (n - (i + 1))) (drop (n - (i + 1)) tail) ≡ stains (place + (n - (i + 1))) (getD tail (n - (i + 1)) 0 ∷ drop (n - i) tail)
+  wiped-step : wipePlaces (place + (n - (i + 1))) (drop (n - (i + 1)) tail) ≡ wipePlaces (place + (n - (i + 1))) (getD tail (n - (i + 1)) 0 ∷ drop (n - i) tail)
   wiped-step =
       let z : suc (n - (i + 1)) ≡ n - i = omega arith in
-      ap (stains (place + (n - (i + 1)))) (drop-cons tail (n - (i + 1)) 0 wiped-inside ∙ ap (λ (k : ℕ). getD tail (n - (i + 1)) 0 ∷ drop k tail) z)
+      ap (wipePlaces (place + (n - (i + 1)))) (drop-cons tail (n - (i + 1)) 0 wiped-inside ∙ ap (λ (k : ℕ). getD tail (n - (i + 1)) 0 ∷ drop k tail) z)
 
-  next-place : stains (suc (place + (n - (i + 1)))) (drop (n - i) tail) ≡ seen
-  next-place = let z : suc (place + (n - (i + 1))) ≡ place + (n - i) = omega arith in ap (λ (p : ℕ). stains p (drop (n - i) tail)) z
+  next-place : wipePlaces (suc (place + (n - (i + 1)))) (drop (n - i) tail) ≡ seen
+  next-place = let z : suc (place + (n - (i + 1))) ≡ place + (n - i) = omega arith in ap (λ (p : ℕ). wipePlaces p (drop (n - i) tail)) z
 
   pub wiped-blank : getD tail (n - (i + 1)) 0 ≡ 255 → Wiped tail place n places count (i + 1)
   wiped-blank e =
-      let q : stains (place + (n - (i + 1))) (drop (n - (i + 1)) tail) ≡ seen = wiped-step ∙ stains-blank _ _ _ (eq-eqb _ _ e) ∙ next-place in
+      let q : wipePlaces (place + (n - (i + 1))) (drop (n - (i + 1)) tail) ≡ seen = wiped-step ∙ wipe-places-blank _ _ _ (eq-eqb _ _ e) ∙ next-place in
       record { within = omega arith; all = w .all; few = w .few; area = w .area; fewer = omega (arith, w .fewer); counted = w .counted ∙ ap length (sym q); stored = w .stored ∙ ap (λ (ps : List ℕ). take 3 (ps ++ (0 ∷ 0 ∷ 0 ∷ []))) (sym q) }
 
   pub wiped-other : (getD tail (n - (i + 1)) 0 ≡ 255 → ⊥) → Wiped tail place n (set places count (place + (n - (i + 1)))) (count + 1) (i + 1)
   wiped-other e =
       let p = place + (n - (i + 1)) in
-      let q : stains p (drop (n - (i + 1)) tail) ≡ seen ++ (p ∷ []) = wiped-step ∙ stains-other _ _ _ (ne-eqb _ _ e) ∙ ap (λ (x : List ℕ). x ++ (p ∷ [])) next-place in
+      let q : wipePlaces p (drop (n - (i + 1)) tail) ≡ seen ++ (p ∷ []) = wiped-step ∙ wipe-places-other _ _ _ (ne-eqb _ _ e) ∙ ap (λ (x : List ℕ). x ++ (p ∷ [])) next-place in
       record {
         within = omega arith;
         all = w .all;
@@ -203,14 +202,14 @@ module _ {tail : List ℕ} {place n : ℕ} {places : List ℕ} {count i : ℕ} (
       }
 
 pub wiped-all-done : {tail : List ℕ} {place n : ℕ} {places : List ℕ} {count i : ℕ} → Wiped tail place n places count i → n ≤ i
-    → record { verdict = Accepted; places = places; count = count } ≡ mendOf (stains place tail)
+    → record { verdict = Accepted; places = places; count = count } ≡ mendOf (wipePlaces place tail)
 wiped-all-done {tail} {place} {n} {places} {count} {i} w h =
     let z : n - i ≡ 0 = omega (arith, w .within) in
     let y : place + (n - i) ≡ place = omega arith in
-    let q : stains (place + (n - i)) (drop (n - i) tail) ≡ stains place tail = ap₂ (λ (p k : ℕ). stains p (drop k tail)) y z in
+    let q : wipePlaces (place + (n - i)) (drop (n - i) tail) ≡ wipePlaces place tail = ap₂ (λ (p k : ℕ). wipePlaces p (drop k tail)) y z in
     rw (w .counted, w .stored, q)
 
 -- what mend's tail has
-pub torn-tail : (s : Season) (area : List ℕ) (v : Sown s) (p : ℕ) → TornHere s area v p
+pub torn-tail : (s : Season) (area : List ℕ) (v : AcceptedSeason s) (p : ℕ) → TornHere s area v p
     → (length (trim (take (length area - p) (drop p area))) ≤ 3) × (p + length (take (length area - p) (drop p area)) ≤ 8192)
 torn-tail s area v p t = rw (tail-part p area) (t .short, rw length-drop (omega (arith, t .few, t .inside)))

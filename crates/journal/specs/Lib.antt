@@ -1,11 +1,11 @@
 -- Document 01, 'The journal' and 'The book', as definitions that the contracts cite; then the cases marked †, and what is proved.
 pub mod Entries
 pub mod Opening
-pub mod Words
+pub mod Specified
 pub mod Calls
 pub mod Book
 pub mod History
 pub mod Sums
 pub mod Cases
-pub mod Inside
+pub mod Carried
 pub mod Claims

@@ -56,7 +56,7 @@ pub fn joined(a: u8, b: u8, c: u8) -> u32
 }
 
 // The number at the start of three bytes. It has three groups at most, so each count is written out.
-fn three(a: u8, b: u8, c: u8) -> Number
+fn read_three(a: u8, b: u8, c: u8) -> Number
     ensures { λ r. ⌜ r ≡ decode (a ∷ b ∷ c ∷ []) ⌝ }
 {
     if a < 0x80 {
@@ -99,7 +99,7 @@ pub fn read(s: &[u8]) -> Number
     if length == 2 {
         return Number::Short;
     }
-    three(first, second, s[2])
+    read_three(first, second, s[2])
 }
 
 // The number at a place of `s`. With three bytes there the length is looked at once; past the end there is none.
@@ -109,7 +109,7 @@ pub fn read_at(s: &[u8], at: usize) -> Number
     let length = s.len();
     if 3 <= length {
         if at <= length - 3 {
-            return three(s[at], s[at + 1], s[at + 2]);
+            return read_three(s[at], s[at + 1], s[at + 2]);
         }
     }
     if length < at {

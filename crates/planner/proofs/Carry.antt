@@ -11,7 +11,8 @@ use Rattle.season.specs.declared.Season.{Season}
 use Rattle.season.specs.declared.SeasonDay.{SeasonDay}
 use Rattle.season.specs.Sheet.{Valid, DayOf, seasonDays}
 use Rattle.season.specs.Rules.{rainTo}
-use Rattle.season.specs.Day.{rainOn, dayOf, OnDay}
+use Rattle.season.specs.Day.{rainOn}
+use Rattle.season.specs.Carried.{dayOf, OnDay}
 use Rattle.season.proofs.Whole.{by-order}
 use Rattle.season.proofs.Days.{number-is, on-number, on-day, OnInMonth, day-small, rain-is, rain-grows, next-inside, next-month}
 use Rattle.season.proofs.Along.{along, along-on}

@@ -99,7 +99,7 @@ module _ (s : Season) (today D waiting : ℕ) (l : List ℕ) where
         beyond = drop-at xs (drop (length xs) l) (daysLeft s today) (b .size) ∙ ap (λ n. drop n l) (b .size);
         count = rw first;
         total = rw first;
-        let-in = refl;
+        gross-of-net = refl;
       }
 
   says : Says (answer s today D waiting l .0) (answer s today D waiting l .1)
@@ -149,7 +149,7 @@ module _ (s : Season) (today D waiting : ℕ) (l : List ℕ) where
       let n : net .0 ≤ 1215000 = rw (r .total) (omega (arith, net-at-most s today waiting D (take (daysLeft s today) m) v (d .from) (r .best))) in
       let g : (net .0 * 100 + (s .efficiency - 1)) / s .efficiency < 121500001
       = div-lt-iff-lt-mul {k = s .efficiency} (omega (arith, v .ranges .efficiency .low≤)) .1 (omega (arith, v .ranges .efficiency .low≤)) in
-      (n, rw (r .let-in) (omega arith))
+      (n, rw (r .gross-of-net) (omega arith))
 
 cases-hold : map (λ (c : List ℕ × List ℕ). c .0) cases ≡ map (λ (c : List ℕ × List ℕ). c .1) cases
 unfolding cases small answer answerTo byWalks onWalk pad walk ending watered irrigated sum dateOf kcOf cropNeed rainOn nextDay daysOn ramp rampZ

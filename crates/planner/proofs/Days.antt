@@ -14,34 +14,34 @@ use Rattle.planner.specs.Plan.{Plan, depths, refused, after}
 -- The plan from a day on, or `dry f`: with no watering f is the first failing day, and there is no turn day from that day to f.
 pub data Draft : Type 0 where
   planned : Plan → Draft
-  dry : ℕ → Draft
+  unwatered : ℕ → Draft
 
 -- no turn day since the last watering: the failing day is refused
 unfoldable pub settled : Draft → Plan
 settled (planned p) = p
-settled (dry f) = refused f
+settled (unwatered f) = refused f
 
 -- depth x put before a draft
 unfoldable pub before : ℕ → Draft → Draft
 before x (planned p) = planned (after x p)
-before x (dry f) = dry f
+before x (unwatered f) = unwatered f
 
 -- Day d, which starts at D, with depth x, and then the days after it as `rest` plans them from its end. It may be the failing day.
 unfoldable pub withDepth : Outlook → ℕ → ℕ → (ℕ → Draft) → ℕ → Draft
 withDepth o d D rest x =
     elim (leb (plannedDay o d D x) (o .ready d)) [
       | true ↦ before x (rest (plannedDay o d D x))
-      | false ↦ dry d
+      | false ↦ unwatered d
     ]
 
 -- The walk failed on day f and has come back to day d, with no turn day after it up to f. If d is a turn day it is the latest one:
 -- it is watered with the smallest depth that brings max(0, D - w) to zero; if that is 0, f is refused.
 unfoldable pub backAt : Outlook → ℕ → ℕ → (ℕ → Draft) → Draft → Draft
 backAt o d D rest (planned p) = planned p
-backAt o d D rest (dry f) =
+backAt o d D rest (unwatered f) =
     elim (o .turn d) [
       | true ↦ planned (elim (D - o .water d) [ zero ↦ refused f | suc x ↦ settled (withDepth o d D rest (suc x)) ])
-      | false ↦ dry f
+      | false ↦ unwatered f
     ]
 
 -- k days from day d, which starts at D: without watering day d first, and where that comes back dry, with it
@@ -73,13 +73,13 @@ record Made (o : Outlook) (k d D : ℕ) (xs : List ℕ) : Type 0 where
 abbrev Good : Outlook → ℕ → ℕ → ℕ → Draft → Type 0
 Good o k d D (planned (depths xs)) = Made o k d D xs
 Good o k d D (planned (refused f)) = Reached o k d D f × ((E : ℕ) → NoneHolds o d E f)
-Good o k d D (dry f) = FirstLost o k d D f
+Good o k d D (unwatered f) = FirstLost o k d D f
 
 -- what a draft with depth x on day d, before k days, says; a dry one, only that no choice that begins with x holds
 abbrev Begun : Outlook → ℕ → ℕ → ℕ → ℕ → Draft → Type 0
 Begun o k d D x (planned (depths xs)) = (zs : List ℕ) × (xs ≡ x ∷ zs) × (plannedDay o d D x ≤ o .ready d) × Made o k (suc d) (plannedDay o d D x) zs
 Begun o k d D x (planned (refused f)) = Good o (suc k) d D (planned (refused f))
-Begun o k d D x (dry f) = Reached o (suc k) d D f × ((ys : List ℕ) → f < length (x ∷ ys) + d → Holds o d D (x ∷ ys) → ⊥)
+Begun o k d D x (unwatered f) = Reached o (suc k) d D f × ((ys : List ℕ) → f < length (x ∷ ys) + d → Holds o d D (x ∷ ys) → ⊥)
 
 irrigated-cons : (x : ℕ) (xs : List ℕ) → irrigated (x ∷ xs) ≡ irrigated (x ∷ []) + irrigated xs
 unfolding irrigated
@@ -127,7 +127,7 @@ module _ (o : Outlook) where
         lost : (E : ℕ) → NoneHolds o d E f
         lost E [] l p = omega arith
         lost E (y ∷ ys) l p = g .1 (plannedDay o d E y) ys (omega arith) (p .2)
-    begun-before x t h (dry f) g = (reached-next x f t h (g .0), λ ys l p. g .1 ys (omega arith) (p .2))
+    begun-before x t h (unwatered f) g = (reached-next x f t h (g .0), λ ys l p. g .1 ys (omega arith) (p .2))
 
     begun : (rest : ℕ → Draft) → ((E : ℕ) → Good o k (suc d) E (rest E))
         → (x : ℕ) → (0 < x → o .turn d ≡ true) → Begun o k d D x (withDepth o d D rest x)
@@ -137,14 +137,14 @@ module _ (o : Outlook) where
         end : ℕ
         end = plannedDay o d D x
 
-        go : (b : Bool) → leb end (o .ready d) ≡ b → Begun o k d D x (elim b [ true ↦ before x (rest end) | false ↦ dry d ])
+        go : (b : Bool) → leb end (o .ready d) ≡ b → Begun o k d D x (elim b [ true ↦ before x (rest end) | false ↦ unwatered d ])
         go true e = begun-before x t (leb-true end (o .ready d) e) (rest end) (good end)
         go false e = (record { from = omega arith; to = omega arith; held = ([], omega arith, tt) }, λ ys l p. omega (arith, p .1, leb-false end (o .ready d) e))
 
     -- day d is left dry: a choice that waters it may start the next day lower, but has had one watering more
-    made-dry : (zs : List ℕ) → plannedDay o d D 0 ≤ o .ready d → Made o k (suc d) (plannedDay o d D 0) zs → Made o (suc k) d D (0 ∷ zs)
+    made-unwatered : (zs : List ℕ) → plannedDay o d D 0 ≤ o .ready d → Made o k (suc d) (plannedDay o d D 0) zs → Made o (suc k) d D (0 ∷ zs)
     unfolding Holds Fills irrigated
-    made-dry zs h m =
+    made-unwatered zs h m =
         record {
           size = omega arith;
           holds = (λ t. absurd (omega arith), h, m .holds);
@@ -189,7 +189,7 @@ module _ (o : Outlook) where
         ahead E (y ∷ ys) l p = lead-cons 0 1 (suc x) y zs ys (omega arith) (after E y ys l p)
 
     -- depth x fills the soil on day d, and no choice that begins with it holds through f: none does, from any start
-    lost-full : (x f : ℕ) → D ≤ o .water d + x → (0 < x → o .turn d ≡ true) → Begun o k d D x (dry f) → Good o (suc k) d D (planned (refused f))
+    lost-full : (x f : ℕ) → D ≤ o .water d + x → (0 < x → o .turn d ≡ true) → Begun o k d D x (unwatered f) → Good o (suc k) d D (planned (refused f))
     lost-full x f full t g = (g .0, lost)
       where
         lost : (E : ℕ) → NoneHolds o d E f
@@ -201,13 +201,13 @@ module _ (o : Outlook) where
     unfolding settled
     good-wet x full t lost (planned (depths xs)) g = rw (g .1) (made-wet x (g .0) full t (g .2) lost (g .3))
     good-wet x full t lost (planned (refused f)) g = g
-    good-wet x full t lost (dry f) g = lost-full (suc x) f (omega arith) (λ _. t) g
+    good-wet x full t lost (unwatered f) g = lost-full (suc x) f (omega arith) (λ _. t) g
 
     good-back : (rest : ℕ → Draft) → ((E : ℕ) → Good o k (suc d) E (rest E)) → (r : Draft) → Begun o k d D 0 r → Good o (suc k) d D (backAt o d D rest r)
     unfolding backAt Holds
-    good-back rest good (planned (depths xs)) g = rw (g .1) (made-dry (g .0) (g .2) (g .3))
+    good-back rest good (planned (depths xs)) g = rw (g .1) (made-unwatered (g .0) (g .2) (g .3))
     good-back rest good (planned (refused f)) g = g
-    good-back rest good (dry f) g = go (o .turn d) refl
+    good-back rest good (unwatered f) g = go (o .turn d) refl
       where
         fill : ℕ → Plan
         fill = elim [ zero ↦ refused f | suc x ↦ settled (withDepth o d D rest (suc x)) ]
@@ -221,7 +221,7 @@ module _ (o : Outlook) where
         no-turn t (zero ∷ ys) l p = g .1 ys l p
         no-turn t (suc y ∷ ys) l p = true≢false (sym (p .0 (omega arith)) ∙ t)
 
-        go : (b : Bool) → o .turn d ≡ b → Good o (suc k) d D (elim b [ true ↦ planned (fill (D - o .water d)) | false ↦ dry f ])
+        go : (b : Bool) → o .turn d ≡ b → Good o (suc k) d D (elim b [ true ↦ planned (fill (D - o .water d)) | false ↦ unwatered f ])
         go true t = filled (D - o .water d) refl t
         go false t = (g .0, no-turn t)
 
@@ -242,4 +242,4 @@ module _ (o : Outlook) where
       go (planned (depths xs)) g =
           record { size = g .size; holds = g .holds; fills = g .fills; fewest = λ ys l p j. omega (arith, g .fewest ys l p j) }
       go (planned (refused f)) g = (g .0, g .1 D)
-      go (dry f) g = g
+      go (unwatered f) g = g

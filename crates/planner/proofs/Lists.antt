@@ -29,9 +29,9 @@ irrigated-wet xs i h p = rw (add-one i, take-suc xs i 0, irrigated-append) (go (
     go zero q = absurd (omega arith)
     go (suc x) q = refl
 
-pub irrigated-dry : (xs : List ℕ) (i : ℕ) → i < length xs → getD xs i 0 ≤ 0 → irrigated (take (i + 1) xs) ≡ irrigated (take i xs)
+pub irrigated-unwatered : (xs : List ℕ) (i : ℕ) → i < length xs → getD xs i 0 ≤ 0 → irrigated (take (i + 1) xs) ≡ irrigated (take i xs)
 unfolding irrigated
-irrigated-dry xs i h p =
+irrigated-unwatered xs i h p =
     let none : getD xs i 0 ≡ 0 = omega arith in
     rw (add-one, take-suc xs i 0, irrigated-append, none) (omega arith)
 

@@ -9,13 +9,14 @@ use lib.ListN.{length, set, replicate, length-append, length-replicate}
 use Rattle.season.specs.declared.Season.{Season}
 use Rattle.season.specs.declared.SeasonDay.{SeasonDay}
 use Rattle.season.specs.Sheet.{Valid, DayOf, seasonDays}
-use Rattle.season.specs.Day.{cropNeed, readyOn, dayOf}
+use Rattle.season.specs.Day.{cropNeed, readyOn}
+use Rattle.season.specs.Carried.{dayOf}
 use Rattle.season.proofs.Bounds.{need-le}
 use Rattle.season.proofs.Days.{number-is}
-use Rattle.planner.specs.declared.Look.{Look}
+use Rattle.planner.specs.declared.DayOutlook.{DayOutlook}
 use Rattle.planner.specs.declared.Track.{Track}
 use Rattle.planner.specs.Plan.{depths, refused, plan}
-use Rattle.planner.specs.Outlook.{outlook, lookAt, daysLeft}
+use Rattle.planner.specs.Outlook.{outlook, outlookOn, daysLeft}
 use Rattle.planner.specs.Carried.{passDay}
 use Rattle.planner.proofs.Bounds.{ready-at-most}
 use Rattle.planner.proofs.Carry.{Coming, coming-start, rainBefore}
@@ -85,14 +86,14 @@ module _ {s : Season} {today waiting D last : ℕ} {t : SeasonDay} {before week 
       record { coming = c; high = omega arith; small = w .small; passing = rw i (w .passing) }
 
 -- Day t is passed with no watering, and ends as the track says.
-module _ {s : Season} {today waiting D last : ℕ} {t : SeasonDay} {before week : ℕ} {k : Track} {l : List ℕ} {look : Look}
-    (w : Drawing s today waiting D last t before week (t .number) k l) (r : look ≡ lookAt (outlook s today waiting) (t .number)) where
-  pub drawing-fits : (k .filled ≤ k .depletion) × (k .depletion + look .need < 4294967296)
+module _ {s : Season} {today waiting D last : ℕ} {t : SeasonDay} {before week : ℕ} {k : Track} {l : List ℕ} {ahead : DayOutlook}
+    (w : Drawing s today waiting D last t before week (t .number) k l) (r : ahead ≡ outlookOn (outlook s today waiting) (t .number)) where
+  pub drawing-fits : (k .filled ≤ k .depletion) × (k .depletion + ahead .need < 4294967296)
   drawing-fits =
-      let c : look .need ≡ cropNeed s (t .number) = ap (λ k. k .need) r in
+      let c : ahead .need ≡ cropNeed s (t .number) = ap (λ k. k .need) r in
       (w .passing .low, omega (arith, w .small, need-le s (t .number) (w .coming .valid) (w .coming .day .of)))
 
-  module _ {n : Track} (q : n ≡ passDay k look (t .number)) where
+  module _ {n : Track} (q : n ≡ passDay k ahead (t .number)) where
     -- the days after t
     abbrev rest : ℕ → Draft
     rest = draft (outlook s today waiting) (daysLeft s (suc (t .number))) (suc (t .number))
@@ -103,20 +104,20 @@ module _ {s : Season} {today waiting D last : ℕ} {t : SeasonDay} {before week 
         let z : daysLeft s (t .number) ≡ suc (daysLeft s (suc (t .number))) = omega (arith, w .coming .day .of .to) in
         passing-day (outlook s today waiting) (daysLeft s (suc (t .number))) (rw z at (w .passing)) (rw r at q)
 
-    ready : look .ready ≡ outlook s today waiting .ready (t .number)
+    ready : ahead .ready ≡ outlook s today waiting .ready (t .number)
     ready = ap (λ k. k .ready) r
 
-    pub drawing-lost : look .ready < n .filled → refused (t .number) ≡ plan (outlook s today waiting) (daysLeft s today) today D
+    pub drawing-lost : ahead .ready < n .filled → refused (t .number) ≡ plan (outlook s today waiting) (daysLeft s today) today D
     drawing-lost h = passing-lost (outlook s today waiting) (t .number) rest ended (rw ready at h)
 
-    pub drawing-place : look .ready < n .depletion → n .filled ≤ look .ready → Placed today (n .turn) l
+    pub drawing-place : ahead .ready < n .depletion → n .filled ≤ ahead .ready → Placed today (n .turn) l
     drawing-place h g =
         let f = passing-turn (outlook s today waiting) (t .number) rest ended (rw ready at h) (rw ready at g) in
         let last = w .coming .day .of .to in
         (f .0, omega (arith, f .1, last, w .coming .valid .year), omega (arith, f .0, f .1, sized w, last))
 
     -- It holds, or it holds with the turn day filled.
-    pub drawing-passed : {m : Track} {l′ : List ℕ} → Ended today (look .ready) n l m l′ → Drawing s today waiting D last t before week (suc (t .number)) m l′
+    pub drawing-passed : {m : Track} {l′ : List ℕ} → Ended today (ahead .ready) n l m l′ → Drawing s today waiting D last t before week (suc (t .number)) m l′
     drawing-passed {m} {l′} c =
         let f = ended-next c in
         record { coming = w .coming; high = omega arith; small = f .0; passing = f .1 }
@@ -124,7 +125,7 @@ module _ {s : Season} {today waiting D last : ℕ} {t : SeasonDay} {before week 
         few : readyOn s (t .number) ≤ 120000
         few = ready-at-most s (t .number) (w .coming .valid)
 
-        ended-next : Ended today (look .ready) n l m l′
+        ended-next : Ended today (ahead .ready) n l m l′
             → (m .depletion ≤ 120000) × Passing today (daysLeft s (suc (t .number))) (suc (t .number)) rest (plan (outlook s today waiting) (daysLeft s today) today D) m l′
         ended-next (inl p) =
             rw (p .2, p .3) (omega (arith, few, ready, p .1), passing-fills (outlook s today waiting) (t .number) rest ended (rw ready at (p .0)) (rw ready at (p .1)))

@@ -11,9 +11,9 @@ use borrow.Author.Tests.{le-leb, lt-leb}
 use Rattle.planner.specs.declared.Track.{Track}
 use Rattle.planner.specs.Choices.{Outlook, plannedDay}
 use Rattle.planner.specs.Plan.{Plan, depths, refused, after, plan}
-use Rattle.planner.specs.Outlook.{lookAt}
+use Rattle.planner.specs.Outlook.{outlookOn}
 use Rattle.planner.specs.Carried.{passDay}
-use Rattle.planner.proofs.Days.{Draft, planned, dry, settled, before, backAt, draft}
+use Rattle.planner.proofs.Days.{Draft, planned, unwatered, settled, before, backAt, draft}
 use Rattle.planner.proofs.Walks.{settled-before, endsAt, withDepth-ends, by-walks}
 
 -- Depths xs before a plan.
@@ -34,18 +34,18 @@ onto-after xs x (refused f) = refl
 -- The plan where xs are the depths so far and r is the draft of the days left; ys and s are both with the latest turn day filled.
 unfoldable pub resumed : List ℕ → List ℕ → Draft → Draft → Plan
 resumed xs ys (planned p) s = onto xs p
-resumed xs ys (dry f) s = onto ys (settled s)
+resumed xs ys (unwatered f) s = onto ys (settled s)
 
 -- nothing is to be filled
 resumed-one : (xs ys : List ℕ) (r : Draft) → resumed xs ys r r ≡ onto xs (settled r)
 unfolding resumed settled onto
 resumed-one xs ys (planned p) = refl
-resumed-one xs ys (dry f) = refl
+resumed-one xs ys (unwatered f) = refl
 
 resumed-before : (xs ys : List ℕ) (r s : Draft) → resumed xs ys (before 0 r) (before 0 s) ≡ resumed (xs ++ 0 ∷ []) (ys ++ 0 ∷ []) r s
 unfolding resumed before
 resumed-before xs ys (planned p) s = onto-after xs 0 p
-resumed-before xs ys (dry f) s = rw settled-before (onto-after ys 0 (settled s))
+resumed-before xs ys (unwatered f) s = rw settled-before (onto-after ys 0 (settled s))
 
 module _ (o : Outlook) (k d : ℕ) where
   -- the days after d
@@ -62,7 +62,7 @@ module _ (o : Outlook) (k d : ℕ) where
     where
       go : (r : Draft) → backAt o d D rest r ≡ r
       go (planned p) = refl
-      go (dry f) = rw (t, backAt)
+      go (unwatered f) = rw (t, backAt)
 
   resumed-no-turn : (xs ys : List ℕ) (D F : ℕ) → o .turn d ≡ false
       → resumed xs ys (draft o (suc k) d D) (draft o (suc k) d F)
@@ -70,11 +70,11 @@ module _ (o : Outlook) (k d : ℕ) where
   resumed-no-turn xs ys D F t = rw (draft-no-turn D t, draft-no-turn F t) (resumed-before xs ys (endsAt o d rest (plannedDay o d D 0)) (endsAt o d rest (plannedDay o d F 0)))
 
   -- the walk comes back to turn day d: nothing is left to fill, or the depth fills it and it ends at its need
-  back-empty : (D f : ℕ) → o .turn d ≡ true → D - o .water d ≡ 0 → backAt o d D rest (dry f) ≡ planned (refused f)
+  back-empty : (D f : ℕ) → o .turn d ≡ true → D - o .water d ≡ 0 → backAt o d D rest (unwatered f) ≡ planned (refused f)
   unfolding backAt
   back-empty D f t e = rw (t, e, backAt)
 
-  back-fills : (D f x : ℕ) → o .turn d ≡ true → D - o .water d ≡ suc x → backAt o d D rest (dry f) ≡ planned (after (suc x) (settled (endsAt o d rest (o .need d))))
+  back-fills : (D f x : ℕ) → o .turn d ≡ true → D - o .water d ≡ suc x → backAt o d D rest (unwatered f) ≡ planned (after (suc x) (settled (endsAt o d rest (o .need d))))
   unfolding backAt
   back-fills D f x t e =
       let end : plannedDay o d D (suc x) ≡ o .need d = omega arith in
@@ -87,8 +87,8 @@ module _ (o : Outlook) (k d : ℕ) where
   unfolding backAt resumed before settled onto
   resumed-turn xs ys D s t = rw draft-ends (go (endsAt o d rest (plannedDay o d D 0)) refl)
     where
-      fill : (f x : ℕ) → endsAt o d rest (plannedDay o d D 0) ≡ dry f → D - o .water d ≡ x
-          → resumed xs ys (backAt o d D rest (dry f)) s ≡ onto (xs ++ x ∷ []) (settled (endsAt o d rest (o .need d)))
+      fill : (f x : ℕ) → endsAt o d rest (plannedDay o d D 0) ≡ unwatered f → D - o .water d ≡ x
+          → resumed xs ys (backAt o d D rest (unwatered f)) s ≡ onto (xs ++ x ∷ []) (settled (endsAt o d rest (o .need d)))
       fill f zero e i =
           let end : plannedDay o d D 0 ≡ o .need d = omega arith in
           rw (back-empty D f t i, ← end, e)
@@ -97,7 +97,7 @@ module _ (o : Outlook) (k d : ℕ) where
       go : (r : Draft) → endsAt o d rest (plannedDay o d D 0) ≡ r
           → resumed xs ys (backAt o d D rest (before 0 r)) s ≡ resumed (xs ++ 0 ∷ []) (xs ++ (D - o .water d) ∷ []) r (endsAt o d rest (o .need d))
       go (planned p) e = onto-after xs 0 p
-      go (dry f) e = fill f (D - o .water d) e refl
+      go (unwatered f) e = fill f (D - o .water d) e refl
 
 -- Depths ys are xs with the latest turn day filled, which is before d.
 abbrev pub Pending : ℕ → ℕ → Track → List ℕ → List ℕ → Type 0
@@ -129,7 +129,7 @@ passing-start o k d D e =
     }
 
 -- What the track says of day d, once it is passed.
-module _ {n : Track} (o : Outlook) (d : ℕ) (k : Track) (e : n ≡ passDay k (lookAt o d) d) where
+module _ {n : Track} (o : Outlook) (d : ℕ) (k : Track) (e : n ≡ passDay k (outlookOn o d) d) where
   track-ends : n .depletion ≡ plannedDay o d (k .depletion) 0
   unfolding passDay
   track-ends = omega (arith, ap (λ t. t .depletion) e)
@@ -148,7 +148,7 @@ module _ {n : Track} (o : Outlook) (d : ℕ) (k : Track) (e : n ≡ passDay k (l
 
 -- Day d is passed with no watering, and ends as the track says: it may be the failing day.
 module _ {today d : ℕ} {p : Plan} {k n : Track} {l : List ℕ} (o : Outlook) (left : ℕ) (w : Passing today (suc left) d (draft o (suc left) d) p k l)
-    (e : n ≡ passDay k (lookAt o d) d) where
+    (e : n ≡ passDay k (outlookOn o d) d) where
   -- the days after d, where it ends at E
   abbrev ended : ℕ → Draft
   ended E = endsAt o d (draft o left (suc d)) E
@@ -196,9 +196,9 @@ ends-held : (o : Outlook) (d E : ℕ) (rest : ℕ → Draft) → E ≤ o .ready 
 unfolding endsAt
 ends-held o d E rest h = rw (le-leb E (o .ready d) h, endsAt)
 
-ends-dry : (o : Outlook) (d E : ℕ) (rest : ℕ → Draft) → o .ready d < E → endsAt o d rest E ≡ dry d
+ends-unwatered : (o : Outlook) (d E : ℕ) (rest : ℕ → Draft) → o .ready d < E → endsAt o d rest E ≡ unwatered d
 unfolding endsAt
-ends-dry o d E rest h = rw (lt-leb E (o .ready d) h, endsAt)
+ends-unwatered o d E rest h = rw (lt-leb E (o .ready d) h, endsAt)
 
 -- The turn day is filled, and has been all along.
 abbrev pub filledNow : Track → Track
@@ -220,7 +220,7 @@ module _ {today left d : ℕ} {p : Plan} {k : Track} {l : List ℕ} (o : Outlook
 
   pub passing-lost : o .ready i < k .filled → refused i ≡ p
   unfolding resumed settled onto
-  passing-lost h = rw (ends-dry o i (k .depletion) rest (omega (arith, w .low)), ends-dry o i (k .filled) rest h) at (w .same)
+  passing-lost h = rw (ends-unwatered o i (k .depletion) rest (omega (arith, w .low)), ends-unwatered o i (k .filled) rest h) at (w .same)
 
   module _ (h : o .ready i < k .depletion) (g : k .filled ≤ o .ready i) where
     pub passing-turn : Pending today d k (w .drawn) (w .other)
@@ -238,7 +238,7 @@ module _ {today left d : ℕ} {p : Plan} {k : Track} {l : List ℕ} (o : Outlook
           size = rw (f .2, length-set) (w .size);
           low = omega arith;
           fills = λ q. absurd (omega arith);
-          same = rw resumed-one (rw (ends-dry o i (k .depletion) rest h, ends-held o i (k .filled) rest g) at (w .same));
+          same = rw resumed-one (rw (ends-unwatered o i (k .depletion) rest h, ends-held o i (k .filled) rest g) at (w .same));
         }
 
 pub passing-end : {today d : ℕ} {p : Plan} {k : Track} {l : List ℕ} (o : Outlook) → Passing today 0 d (draft o 0 d) p k l → depths l ≡ p

@@ -7,16 +7,16 @@ use lib.Dec.{leb}
 use lib.ListN.{replicate}
 use Rattle.planner.specs.Choices.{Outlook, plannedDay}
 use Rattle.planner.specs.Plan.{never, on, Walk, held, fails, orElse, turnAt, ending, walk, watered, Plan, depths, refused, after, pad, onWalk, byWalks, plan}
-use Rattle.planner.proofs.Days.{Draft, planned, dry, settled, before, withDepth, backAt, draft, drafted, Right, draft-right}
+use Rattle.planner.proofs.Days.{Draft, planned, unwatered, settled, before, withDepth, backAt, draft, drafted, Right, draft-right}
 
 pub settled-before : (x : ℕ) (r : Draft) → settled (before x r) ≡ after x (settled r)
 unfolding settled before
 settled-before x (planned p) = refl
-settled-before x (dry f) = refl
+settled-before x (unwatered f) = refl
 
 -- day t ends at E, and `rest` plans the days after it
 unfoldable pub endsAt : Outlook → ℕ → (ℕ → Draft) → ℕ → Draft
-endsAt o t rest E = elim (leb E (o .ready t)) [ true ↦ rest E | false ↦ dry t ]
+endsAt o t rest E = elim (leb E (o .ready t)) [ true ↦ rest E | false ↦ unwatered t ]
 
 pub withDepth-ends : (o : Outlook) (d D : ℕ) (rest : ℕ → Draft) (x : ℕ) → withDepth o d D rest x ≡ before x (endsAt o d rest (plannedDay o d D x))
 unfolding withDepth endsAt before
@@ -25,7 +25,7 @@ withDepth-ends o d D rest x = go (leb end (o .ready d))
     end : ℕ
     end = plannedDay o d D x
 
-    go : (b : Bool) → _≡_ {A = Draft} (elim b [ true ↦ before x (rest end) | false ↦ dry d ]) (before x (elim b [ true ↦ rest end | false ↦ dry d ]))
+    go : (b : Bool) → _≡_ {A = Draft} (elim b [ true ↦ before x (rest end) | false ↦ unwatered d ]) (before x (elim b [ true ↦ rest end | false ↦ unwatered d ]))
     go true = refl
     go false = refl
 
@@ -42,7 +42,7 @@ module _ (o : Outlook) (e : ℕ) where
   -- a walk from day d, whose latest turn day is not before a, against the draft
   abbrev Follows : ℕ → ℕ → Walk → Draft → Type 0
   Follows a d held r = r ≡ planned (depths (replicate (e - d) 0))
-  Follows a d (fails f never) r = r ≡ dry f
+  Follows a d (fails f never) r = r ≡ unwatered f
   Follows a d (fails f (on t x)) r = (a ≤ t) × (t < e) × (r ≡ planned (filled d f t x))
 
   follows-before : (d : ℕ) → d < e → (w : Walk) (r : Draft) → Follows (suc d) (suc d) w r → Follows (suc d) d w (before 0 r)
@@ -78,19 +78,19 @@ module _ (o : Outlook) (e : ℕ) where
       full (suc x) i = ap planned (filled-here k d D f x l i)
 
       go : (b : Bool) → Follows d d (fails f (elim b [ true ↦ on d (D - o .water d) | false ↦ never ]))
-          (elim b [ true ↦ planned (fill (D - o .water d)) | false ↦ dry f ])
+          (elim b [ true ↦ planned (fill (D - o .water d)) | false ↦ unwatered f ])
       go true = (omega arith, omega arith, full (D - o .water d) refl)
       go false = refl
 
-  follows-dry : (k d D : ℕ) → suc k + d ≡ e → ((E : ℕ) → Follows (suc d) (suc d) (walk o k (suc d) E) (draft o k (suc d) E))
+  follows-unwatered : (k d D : ℕ) → suc k + d ≡ e → ((E : ℕ) → Follows (suc d) (suc d) (walk o k (suc d) E) (draft o k (suc d) E))
       → Follows (suc d) d (ending o d (plannedDay o d D 0) (walk o k (suc d))) (withDepth o d D (draft o k (suc d)) 0)
   unfolding ending withDepth
-  follows-dry k d D l h = go (leb end (o .ready d))
+  follows-unwatered k d D l h = go (leb end (o .ready d))
     where
       end : ℕ
       end = plannedDay o d D 0
 
-      go : (b : Bool) → Follows (suc d) d (elim b [ true ↦ walk o k (suc d) end | false ↦ fails d never ]) (elim b [ true ↦ before 0 (draft o k (suc d) end) | false ↦ dry d ])
+      go : (b : Bool) → Follows (suc d) d (elim b [ true ↦ walk o k (suc d) end | false ↦ fails d never ]) (elim b [ true ↦ before 0 (draft o k (suc d) end) | false ↦ unwatered d ])
       go true = follows-before d (omega arith) (walk o k (suc d) end) (draft o k (suc d) end) (h end)
       go false = refl
 
@@ -98,7 +98,7 @@ module _ (o : Outlook) (e : ℕ) where
   unfolding walk draft
   follows zero d D l = let n : e - d ≡ 0 = omega arith in rw n
   follows (suc k) d D l =
-      follows-back k d D l (ending o d (plannedDay o d D 0) (walk o k (suc d))) (withDepth o d D (draft o k (suc d)) 0) (follows-dry k d D l (λ E. follows k (suc d) E (omega arith)))
+      follows-back k d D l (ending o d (plannedDay o d D 0) (walk o k (suc d))) (withDepth o d D (draft o k (suc d)) 0) (follows-unwatered k d D l (λ E. follows k (suc d) E (omega arith)))
 
   -- the walk restarts at the watered day
   follows-watered : (t : ℕ) → t < e → Follows (suc t) (suc t) (watered o (e - suc t) t) (restarted t)
@@ -106,7 +106,7 @@ module _ (o : Outlook) (e : ℕ) where
   follows-watered t l = go (leb (o .need t) (o .ready t))
     where
       go : (b : Bool) → Follows (suc t) (suc t) (elim b [ true ↦ walk o (e - suc t) (suc t) (o .need t) | false ↦ fails t never ])
-          (elim b [ true ↦ draft o (e - suc t) (suc t) (o .need t) | false ↦ dry t ])
+          (elim b [ true ↦ draft o (e - suc t) (suc t) (o .need t) | false ↦ unwatered t ])
       go true = follows (e - suc t) (suc t) (o .need t) (omega arith)
       go false = refl
 

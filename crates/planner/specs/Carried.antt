@@ -2,7 +2,7 @@
 use mathlib.Core.Bool.{Bool, cond}
 use Prim.Native.Nat.{ℕ, _+_, _-_, _/_, _%_, _^_}
 use lib.Dec.{eqb}
-use Rattle.planner.specs.declared.Look.{Look}
+use Rattle.planner.specs.declared.DayOutlook.{DayOutlook}
 use Rattle.planner.specs.declared.Track.{Track}
 
 -- Bit `week` of the turns is set.
@@ -10,11 +10,11 @@ abbrev pub turnIn : ℕ → ℕ → Bool
 turnIn turns week = eqb (turns / 2 ^ week % 2) 1
 
 -- Day d is passed with no watering. A turn day is the latest from then on, and the depth that fills it is max(0, D − w).
-unfoldable pub passDay : Track → Look → ℕ → Track
-passDay k look d =
+unfoldable pub passDay : Track → DayOutlook → ℕ → Track
+passDay k ahead d =
     record {
-      depletion = k .depletion - look .water + look .need;
-      filled = cond (look .turn) 0 (k .filled - look .water) + look .need;
-      turn = cond (look .turn) d (k .turn);
-      depth = cond (look .turn) (k .depletion - look .water) (k .depth);
+      depletion = k .depletion - ahead .water + ahead .need;
+      filled = cond (ahead .turn) 0 (k .filled - ahead .water) + ahead .need;
+      turn = cond (ahead .turn) d (k .turn);
+      depth = cond (ahead .turn) (k .depletion - ahead .water) (k .depth);
     }

@@ -24,7 +24,7 @@ pub record MadeRight (s : Season) (today D waiting : ℕ) (l m : List ℕ) (days
   pub beyond : drop (daysLeft s today) m ≡ drop (daysLeft s today) l
   pub count : days ≡ irrigated (take (daysLeft s today) m)
   pub total : net ≡ netOf (take (daysLeft s today) m)
-  pub let-in : gross ≡ grossOf (s .efficiency) net
+  pub gross-of-net : gross ≡ grossOf (s .efficiency) net
 
 -- The answers that can occur: a refusal is 15 or 16.
 abbrev pub Occurs : Planned → Type 0

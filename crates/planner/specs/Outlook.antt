@@ -5,7 +5,7 @@ use lib.Dec.{eqb}
 use Rattle.season.specs.Sheet.{seasonDays, isTurn}
 use Rattle.season.specs.Day.{cropNeed, rainOn, readyOn}
 use Rattle.season.specs.declared.Season.{Season}
-use Rattle.planner.specs.declared.Look.{Look}
+use Rattle.planner.specs.declared.DayOutlook.{DayOutlook}
 use Rattle.planner.specs.Choices.{Outlook}
 
 -- Planned rain, and on the open day the waiting water in its place.
@@ -19,8 +19,8 @@ outlook s today waiting =
     }
 
 -- What is read of one day.
-abbrev pub lookAt : Outlook → ℕ → Look
-lookAt o i = record { water = o .water i; need = o .need i; ready = o .ready i; turn = o .turn i }
+abbrev pub outlookOn : Outlook → ℕ → DayOutlook
+outlookOn o i = record { water = o .water i; need = o .need i; ready = o .ready i; turn = o .turn i }
 
 -- How many days are left from day d on.
 abbrev pub daysLeft : Season → ℕ → ℕ

@@ -10,10 +10,11 @@ ghost use Prim.Native.Nat.{_+_, _-_, _%_, _≤_, _<_};
 ghost use lib.ListN.{length, drop, replicate};
 ghost use lib.Dec.{eqb};
 ghost use Rattle.season.specs.Sheet.{Valid, DayOf};
-ghost use Rattle.season.specs.Day.{rainOn, OnDay};
+ghost use Rattle.season.specs.Day.{rainOn};
+ghost use Rattle.season.specs.Carried.{OnDay};
 ghost use Rattle.planner.specs.Choices.{irrigated};
 ghost use Rattle.planner.specs.Plan.{plan};
-ghost use Rattle.planner.specs.Outlook.{outlook, lookAt, daysLeft};
+ghost use Rattle.planner.specs.Outlook.{outlook, outlookOn, daysLeft};
 ghost use Rattle.planner.specs.Carried.{turnIn, passDay};
 ghost use Rattle.planner.specs.Answer.{sum, netOf, settles, answerTo, answer};
 
@@ -24,7 +25,7 @@ pub enum Planned {
 }
 
 // What planning reads of a day.
-struct Look {
+struct DayOutlook {
     water: u32,
     need: u32,
     ready: u32,
@@ -55,16 +56,16 @@ fn water_on(today: u32, waiting: u32, day: u32, rain: u32) -> u32
     if day == today { waiting } else { rain }
 }
 
-fn look_on(s: Season, today: u32, waiting: u32, t: SeasonDay, rain: u32, week: u32) -> Look
+fn outlook_on(s: Season, today: u32, waiting: u32, t: SeasonDay, rain: u32, week: u32) -> DayOutlook
     requires { ⌜ Valid s ⌝ }
     requires { ⌜ OnDay s t ⌝ }
     requires { ⌜ rain ≡ rainOn s (t .number) ⌝ }
     requires { ⌜ week ≡ (t .number - 1) % 7 ⌝ }
-    ensures { λ r. ⌜ r ≡ lookAt (outlook s today waiting) (t .number) ⌝ }
+    ensures { λ r. ⌜ r ≡ outlookOn (outlook s today waiting) (t .number) ⌝ }
 {
     let need = season::crop_need(s, t);
     let ready = season::ready_on(s, t);
-    Look {
+    DayOutlook {
         water: water_on(today, waiting, t.number, rain),
         need: need,
         ready: ready,
@@ -105,25 +106,25 @@ fn rain_before(day: u32, to: u32) -> u32
 // ---- the depths
 
 // A day is passed with no watering. A turn day is the one to fill from then on: filled, it has nothing left before it uses its need.
-fn pass_day(track: Track, look: Look, day: u32) -> Track
+fn pass_day(track: Track, ahead: DayOutlook, day: u32) -> Track
     requires { ⌜ track .filled ≤ track .depletion ⌝ }
-    requires { ⌜ track .depletion + look .need < 4294967296 ⌝ }
-    ensures { λ r. ⌜ r ≡ passDay track look day ⌝ }
+    requires { ⌜ track .depletion + ahead .need < 4294967296 ⌝ }
+    ensures { λ r. ⌜ r ≡ passDay track ahead day ⌝ }
 {
-    let left = season::less(track.depletion, look.water);
-    let depletion = planned_day(left, look.need);
-    if look.turn {
+    let left = season::saturating_sub(track.depletion, ahead.water);
+    let depletion = planned_day(left, ahead.need);
+    if ahead.turn {
         return Track {
             depletion: depletion,
-            filled: planned_day(0, look.need),
+            filled: planned_day(0, ahead.need),
             turn: day,
             depth: left,
         };
     }
-    let spared = season::less(track.filled, look.water);
+    let spared = season::saturating_sub(track.filled, ahead.water);
     Track {
         depletion: depletion,
-        filled: planned_day(spared, look.need),
+        filled: planned_day(spared, ahead.need),
         turn: track.turn,
         depth: track.depth,
     }
@@ -153,10 +154,10 @@ fn draw_depths(s: Season, today: u32, waiting: u32, start: u32, depths: &mut [u3
     };
     loop {
         let to = season::rain_to(s, t, t.day);
-        let look = look_on(s, today, waiting, t, to - before, week);
-        track = pass_day(track, look, t.number);
-        if look.ready < track.depletion {
-            if look.ready < track.filled {
+        let ahead = outlook_on(s, today, waiting, t, to - before, week);
+        track = pass_day(track, ahead, t.number);
+        if ahead.ready < track.depletion {
+            if ahead.ready < track.filled {
                 return Drawn::Lost(t.number);
             }
             let place = (track.turn - today) as usize;

@@ -45,8 +45,8 @@ pub fn same_record(r: Recorded, t: Totals, expected: u64, w: EntryBytes) -> bool
 fn same_ledger(l: Ledger, t: Totals) -> bool {
     l.day as u64 == t.day
         && l.depletion as u64 == t.depletion
-        && l.waitingrain as u64 == t.waitingrain
-        && l.waitingirrigation as u64 == t.waitingirrigation
+        && l.waiting_rain as u64 == t.waiting_rain
+        && l.waiting_irrigation as u64 == t.waiting_irrigation
         && l.rain as u64 == t.rain
         && l.irrigation as u64 == t.irrigation
         && l.used as u64 == t.used

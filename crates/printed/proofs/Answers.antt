@@ -14,7 +14,7 @@ use Rattle.decades.proofs.Count.{rows-at-most}
 use Rattle.decades.proofs.Rows.{length-flat}
 use Rattle.decades.proofs.Answers.{rows-refused, tabled-whole}
 use Rattle.sheet.specs.Sheets.{sheetOf}
-use Rattle.sheet.proofs.Accepted.{accepted-sown}
+use Rattle.sheet.proofs.Accepted.{accepted-season}
 use Rattle.controller.specs.Calls.{onSheet, sheetTabled}
 use Rattle.controller.proofs.Sheets.{sheet-refused, sheet-accepted}
 use Rattle.printed.proofs.Texts.{sets-more}
@@ -31,7 +31,7 @@ module _ (b out : List ℕ) (long : length out ≡ 222) where
   accepted v =
       let s = sheetOf b .season in
       sheet-accepted (λ number value. (Declined number value, out)) (λ t. tabled t out) b (sheetOf b) refl v
-      ∙ tabled-whole s out (omega (arith, rows-at-most s (accepted-sown b v .valid)))
+      ∙ tabled-whole s out (omega (arith, rows-at-most s (accepted-season b v .valid)))
 
   refused : (number value : ℕ) → sheetOf b .verdict ≡ Refused number value → sheetTabled b out ≡ (Declined number value, out)
   refused number value v = sheet-refused (λ n w. (Declined n w, out)) (λ t. tabled t out) b (sheetOf b) refl number value v
@@ -53,7 +53,7 @@ module _ (b out : List ℕ) (long : length out ≡ 222) where
           let n : k ≡ rowCount s = cc in
           let f : l ≡ table s ++ drop (rowCount s * 6) out = ap (λ (p : Tabled × List ℕ). p .1) q in
           record {
-            few = omega (arith, rows-at-most s (accepted-sown b v .valid));
+            few = omega (arith, rows-at-most s (accepted-season b v .valid));
             text = rw (n, f, take-at (table s) (drop (rowCount s * 6) out) (rowCount s * 6) (length-flat (s .efficiency) (rowsTo s _)), v) refl;
           }
       go (Refused number value) v = absurd (rows-refused k number value (ap (λ (p : Tabled × List ℕ). p .0) (e ∙ refused number value v)))

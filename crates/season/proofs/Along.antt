@@ -9,8 +9,8 @@ use Rattle.season.specs.declared.Date.{Date}
 use Rattle.season.specs.declared.SeasonDay.{SeasonDay}
 use Rattle.season.specs.Calendar.{monthDays, dateIs}
 use Rattle.season.specs.Sheet.{Valid, seasonDays}
-use Rattle.season.specs.Carried.{inverse, scaled, slopeOf}
-use Rattle.season.specs.Day.{etoIn, dateOf, cropNeed, needsAfter, onDate, dayOf, OnDay}
+use Rattle.season.specs.Carried.{reciprocal, scaled, slopeOf, needsAfter, onDate, dayOf, OnDay}
+use Rattle.season.specs.Day.{etoIn, dateOf, cropNeed}
 use Rattle.season.proofs.Calendar.{next-in, days-high}
 use Rattle.season.proofs.Slopes.{slope-next, last-within}
 use Rattle.season.proofs.Laws.{product}
@@ -28,9 +28,9 @@ pub record Along (k : ℕ) (a b : SeasonDay) : Type 0 where
   pub top : b .top + k * a .down ≡ a .top + k * a .up
   pub up : b .up ≡ a .up
   pub down : b .down ≡ a .down
-  pub inverse : b .inverse ≡ a .inverse
-  pub raining : b .raining ≡ a .raining
-  pub rooting : b .rooting ≡ a .rooting
+  pub reciprocal : b .reciprocal ≡ a .reciprocal
+  pub «rain_per_day» : b .«rain_per_day» ≡ a .«rain_per_day»
+  pub «growth_per_day» : b .«growth_per_day» ≡ a .«growth_per_day»
 
 along-none : (a b : SeasonDay) → b ≡ a → Along 0 a b
 along-none a b e = rw e (record {
@@ -43,9 +43,9 @@ along-none a b e = rw e (record {
   top = omega arith;
   up = refl;
   down = refl;
-  inverse = refl;
-  raining = refl;
-  rooting = refl;
+  reciprocal = refl;
+  «rain_per_day» = refl;
+  «growth_per_day» = refl;
 })
 
 -- a day more
@@ -60,9 +60,9 @@ along-more k a b c p q = record {
   top = omega (arith, p .top, q .top, p .up, p .down, add-mul k 1 (a .down), add-mul k 1 (a .up));
   up = q .up ∙ p .up;
   down = q .down ∙ p .down;
-  inverse = q .inverse ∙ p .inverse;
-  raining = q .raining ∙ p .raining;
-  rooting = q .rooting ∙ p .rooting;
+  reciprocal = q .reciprocal ∙ p .reciprocal;
+  «rain_per_day» = q .«rain_per_day» ∙ p .«rain_per_day»;
+  «growth_per_day» = q .«growth_per_day» ∙ p .«growth_per_day»;
 }
 
 -- the dates and the stage go on
@@ -82,9 +82,9 @@ on-dates s i t h m =
       top = omega (arith, n .bottom, ap (λ (x : ℕ). e * x) (n .top), mul-add e (b .top) (a .down), mul-add e (a .top) (a .up));
       up = ap (λ (x : ℕ). e * x) (n .up);
       down = ap (λ (x : ℕ). e * x) (n .down);
-      inverse = ap (λ (x : ℕ). inverse (100 * x)) (n .bottom);
-      raining = refl;
-      rooting = refl;
+      reciprocal = ap (λ (x : ℕ). reciprocal (100 * x)) (n .bottom);
+      «rain_per_day» = refl;
+      «growth_per_day» = refl;
     }
 
 along-one : (s : Season) (i : ℕ) → 1 ≤ i → 0 < dayOf s i .left → Along 1 (dayOf s i) (dayOf s (i + 1))
@@ -124,9 +124,9 @@ module _ {s : Season} {t : SeasonDay} (v : Valid s) (o : OnDay s t) (k : ℕ) (h
     top = t .top + k * t .up - k * t .down;
     up = t .up;
     down = t .down;
-    inverse = t .inverse;
-    raining = t .raining;
-    rooting = t .rooting;
+    reciprocal = t .reciprocal;
+    «rain_per_day» = t .«rain_per_day»;
+    «growth_per_day» = t .«growth_per_day»;
   } ≡ dayOf s (t .number + k)
   along-is =
       let a = along in
@@ -143,9 +143,9 @@ module _ {s : Season} {t : SeasonDay} (v : Valid s) (o : OnDay s t) (k : ℕ) (h
         top = sym top i;
         up = sym (a .up) i;
         down = sym (a .down) i;
-        inverse = sym (a .inverse) i;
-        raining = sym (a .raining) i;
-        rooting = sym (a .rooting) i;
+        reciprocal = sym (a .reciprocal) i;
+        «rain_per_day» = sym (a .«rain_per_day») i;
+        «growth_per_day» = sym (a .«growth_per_day») i;
       }
 
 module _ {s : Season} {t : SeasonDay} (v : Valid s) (o : OnDay s t) where
@@ -179,13 +179,13 @@ module _ {s : Season} {t : SeasonDay} (v : Valid s) (o : OnDay s t) where
     top-along : x ≡ dayOf s (t .number + k) .top
     top-along = omega (arith, e, along v o k h .top)
 
-    pub need-along : scaled x (t .inverse) ≡ cropNeed s (t .number + k)
+    pub need-along : scaled x (t .reciprocal) ≡ cropNeed s (t .number + k)
     need-along =
         let d = on-number s (t .number + k) in
-        rw (top-along, ← (along v o k h .inverse)) (need-is v (along-on k h) ∙ ap (cropNeed s) d)
+        rw (top-along, ← (along v o k h .reciprocal)) (need-is v (along-on k h) ∙ ap (cropNeed s) d)
 
-    pub need-along-fits : x * t .inverse < 18446744073709551616
-    need-along-fits = rw (top-along, ← (along v o k h .inverse)) (need-fits v (along-on k h))
+    pub need-along-fits : x * t .reciprocal < 18446744073709551616
+    need-along-fits = rw (top-along, ← (along v o k h .reciprocal)) (need-fits v (along-on k h))
 
   pub need-along-few : (k : ℕ) → k ≤ t .left → cropNeed s (t .number + k) ≤ 3000
   need-along-few k h = rw (← (on-number s (t .number + k))) (need-le s _ v (along-on k h .of))
@@ -193,7 +193,7 @@ module _ {s : Season} {t : SeasonDay} (v : Valid s) (o : OnDay s t) where
 -- The sum over k days by what is carried.
 unfoldable pub summed : SeasonDay → ℕ → ℕ
 summed t zero = 0
-summed t (suc k) = summed t k + scaled (t .top + suc k * t .up - suc k * t .down) (t .inverse)
+summed t (suc k) = summed t k + scaled (t .top + suc k * t .up - suc k * t .down) (t .reciprocal)
 
 -- i days are summed, and `top` is that of the last of them.
 pub record Summing (t : SeasonDay) (days top sum i : ℕ) : Type 0 where
@@ -222,12 +222,12 @@ module _ {s : Season} {t : SeasonDay} (v : Valid s) (o : OnDay s t) where
       omega (arith, summed-few k (omega arith), need-along v o (suc k) _ h top, need-along-few v o (suc k) h)
 
   -- Where the coefficient stays, so does the need.
-  pub needs-flat : t .up ≡ t .down → (k : ℕ) → k ≤ t .left → k * scaled (t .top) (t .inverse) ≡ needsAfter s (t .number) k
+  pub needs-constant : t .up ≡ t .down → (k : ℕ) → k ≤ t .left → k * scaled (t .top) (t .reciprocal) ≡ needsAfter s (t .number) k
   unfolding needsAfter
-  needs-flat e zero h = omega arith
-  needs-flat e (suc k) h =
-      let x = scaled (t .top) (t .inverse) in
-      omega (arith, needs-flat e k (omega arith), suc-mul k x, need-along v o (suc k) (t .top) h (ap (λ (n : ℕ). t .top + suc k * n) (sym e)))
+  needs-constant e zero h = omega arith
+  needs-constant e (suc k) h =
+      let x = scaled (t .top) (t .reciprocal) in
+      omega (arith, needs-constant e k (omega arith), suc-mul k x, need-along v o (suc k) (t .top) h (ap (λ (n : ℕ). t .top + suc k * n) (sym e)))
 
   module _ {days top sum i : ℕ} (w : Summing t days top sum i) (h : days ≤ t .left) (l : i < days) where
     -- One day more: the sum does not go below zero.
@@ -239,14 +239,14 @@ module _ {s : Season} {t : SeasonDay} (v : Valid s) (o : OnDay s t) where
     next-top : top + t .up - t .down + (i + 1) * t .down ≡ t .top + (i + 1) * t .up
     next-top = omega (arith, w .is, summing-top, add-mul i 1 (t .up), add-mul i 1 (t .down))
 
-    pub summing-fits : (top + t .up - t .down) * t .inverse < 18446744073709551616
+    pub summing-fits : (top + t .up - t .down) * t .reciprocal < 18446744073709551616
     summing-fits = need-along-fits v o (i + 1) _ (omega arith) next-top
 
-    pub summing-small : sum + scaled (top + t .up - t .down) (t .inverse) ≤ 93000
+    pub summing-small : sum + scaled (top + t .up - t .down) (t .reciprocal) ≤ 93000
     summing-small =
         omega (arith, w .total, summed-few i (omega arith), need-along v o (i + 1) _ (omega arith) next-top, need-along-few v o (i + 1) (omega arith), left-few v o)
 
-    pub summing-more : {sum′ : ℕ} → sum′ ≡ sum + scaled (top + t .up - t .down) (t .inverse) → Summing t days (top + t .up - t .down) sum′ (i + 1)
+    pub summing-more : {sum′ : ℕ} → sum′ ≡ sum + scaled (top + t .up - t .down) (t .reciprocal) → Summing t days (top + t .up - t .down) sum′ (i + 1)
     unfolding summed
     summing-more {sum′} e =
         let same : t .top + (i + 1) * t .up - (i + 1) * t .down ≡ top + t .up - t .down = omega (arith, next-top) in
@@ -254,5 +254,5 @@ module _ {s : Season} {t : SeasonDay} (v : Valid s) (o : OnDay s t) where
         record {
           few = omega arith;
           is = next-top;
-          total = rw (add-one, e, w .total) (ap (λ (x : ℕ). summed t i + scaled x (t .inverse)) (sym (ap (λ (n : ℕ). t .top + n * t .up - n * t .down) (sym a) ∙ same)));
+          total = rw (add-one, e, w .total) (ap (λ (x : ℕ). summed t i + scaled x (t .reciprocal)) (sym (ap (λ (n : ℕ). t .top + n * t .up - n * t .down) (sym a) ∙ same)));
         }

@@ -7,9 +7,9 @@ use borrow.Author.Tests.{le-leb, lt-leb}
 use Rattle.season.specs.declared.Season.{Season}
 use Rattle.season.specs.Sheet.{Ranged, Valid, DayOf}
 use Rattle.season.specs.Rules.{effectiveRain}
-use Rattle.season.specs.Carried.{inverse, slopeOf}
+use Rattle.season.specs.Carried.{reciprocal, slopeOf, growthPerDay}
 use Rattle.season.specs.Calendar.{monthDays, dateIs, Proper}
-use Rattle.season.specs.Day.{rainOn, rootOn, totalOn, dateOf, etoIn, cropNeed, rootingOf}
+use Rattle.season.specs.Day.{rainOn, rootOn, totalOn, dateOf, etoIn, cropNeed}
 use Rattle.season.proofs.Laws.{product, part-le}
 use Rattle.season.proofs.Whole.{by-order}
 use Rattle.season.proofs.Slopes.{kc-slope, slope-small}
@@ -36,16 +36,16 @@ pub date-proper : (s : Season) (i : ℕ) → Valid s → Proper (dateOf s i)
 unfolding dateOf
 date-proper s i v = on-proper _ (i - 1) (start-proper s v)
 
--- an inverse is no more than the scale and one, and times a small number it fits 64 bits
-inverse-le : (d : ℕ) → inverse d ≤ 17592186044417
-inverse-le d = omega (arith, div-le-self 17592186044416 d)
+-- a reciprocal is no more than the scale and one, and times a small number it fits 64 bits
+reciprocal-le : (d : ℕ) → reciprocal d ≤ 17592186044417
+reciprocal-le d = omega (arith, div-le-self 17592186044416 d)
 
-pub raining-small : (e m : ℕ) → e ≤ 25000 → 28 ≤ m → e * inverse m < 18446744073709551616
-raining-small e m h l = omega (arith, product e (inverse m) 25000 17592186044417 h (inverse-le m))
+pub rain-per-day-small : (e m : ℕ) → e ≤ 25000 → 28 ≤ m → e * reciprocal m < 18446744073709551616
+rain-per-day-small e m h l = omega (arith, product e (reciprocal m) 25000 17592186044417 h (reciprocal-le m))
 
-pub rooting-small : (s : Season) → Ranged s → rootingOf s < 18446744073709551616
-rooting-small s r =
-    omega (arith, product (s .full - s .sowing) (inverse (s .initial + s .development)) 300 17592186044417 (omega (arith, r .full .≤high)) (inverse-le (s .initial + s .development)))
+pub growth-per-day-small : (s : Season) → Ranged s → growthPerDay s < 18446744073709551616
+growth-per-day-small s r =
+    omega (arith, product (s .full - s .sowing) (reciprocal (s .initial + s .development)) 300 17592186044417 (omega (arith, r .full .≤high)) (reciprocal-le (s .initial + s .development)))
 
 -- the product that is rounded, and the need
 module _ (s : Season) (i : ℕ) (m : ℕ) (r : Ranged s) where

@@ -23,8 +23,8 @@ rounded : (top bottom : ℕ) → 0 < bottom
     → (2 * bottom * nearest top bottom ≤ 2 * top + bottom) × (2 * top < 2 * bottom * nearest top bottom + bottom)
 rounded top bottom h =
     let q = nearest top bottom in
-    let over : 2 * top + bottom < 2 * bottom * (q + 1) = lt-mul-div-succ (2 * top + bottom) {b = 2 * bottom} (omega arith) in
-    omega (arith, div-mul-le-self (2 * top + bottom) (2 * bottom), mul-comm q (2 * bottom), over)
+    let ratio : 2 * top + bottom < 2 * bottom * (q + 1) = lt-mul-div-succ (2 * top + bottom) {b = 2 * bottom} (omega arith) in
+    omega (arith, div-mul-le-self (2 * top + bottom) (2 * bottom), mul-comm q (2 * bottom), ratio)
 
 ready-up : (s : Season) (i : ℕ) → Valid s → readyOn s i ≤ readyOn s (i + 1)
 ready-up s i v =

@@ -10,10 +10,10 @@ use Rattle.season.specs.declared.SeasonDay.{SeasonDay}
 use Rattle.season.specs.Calendar.{monthDays, monthAfter, dateIs, nextDay, daysOn, Proper}
 use Rattle.season.specs.Sheet.{Valid, DayOf}
 use Rattle.season.specs.Rules.{rainTo, plannedRain}
-use Rattle.season.specs.Day.{etoIn, effectiveIn, dateOf, cropNeed, rainOn, rootingOf, onDate, dayOf, OnDay}
-use Rattle.season.specs.Carried.{scale, inverse, scaled, slopeOf}
+use Rattle.season.specs.Day.{etoIn, effectiveIn, dateOf, cropNeed, rainOn}
+use Rattle.season.specs.Carried.{scale, reciprocal, scaled, slopeOf, growthPerDay, onDate, dayOf, OnDay}
 use Rattle.season.proofs.Laws.{product, quotient-up}
-use Rattle.season.proofs.Inverse.{high, by-inverse, high-product, by-inverse-product}
+use Rattle.season.proofs.Reciprocal.{high, by-reciprocal, high-product, by-reciprocal-product}
 use Rattle.season.proofs.Slopes.{kc-slope, slope-small}
 use Rattle.season.proofs.Calendar.{on-add, next-in, next-over, days-high}
 use Rattle.season.proofs.Bounds.{date-proper, effective-le, weighed, need-le}
@@ -90,9 +90,9 @@ module _ {s : Season} {t : SeasonDay} (v : Valid s) (o : OnDay s t) where
   unfolding dayOf
   top-is = ap (λ (d : SeasonDay). d .top) (o .is)
 
-  inverse-is : t .inverse ≡ inverse (100 * slopeOf s (t .number) .bottom)
+  reciprocal-is : t .reciprocal ≡ reciprocal (100 * slopeOf s (t .number) .bottom)
   unfolding dayOf
-  inverse-is = ap (λ (d : SeasonDay). d .inverse) (o .is)
+  reciprocal-is = ap (λ (d : SeasonDay). d .reciprocal) (o .is)
 
   pub top-small : t .top ≤ 60010000
   top-small = rw top-is (omega (arith, weighed s (t .number) (dateOf s (t .number) .month) (v .ranges), slope-small s (t .number) (v .ranges) .few))
@@ -116,20 +116,20 @@ module _ {s : Season} {t : SeasonDay} (v : Valid s) (o : OnDay s t) where
       let two : 2 * t .top ≡ 2 * (e * stage .top) + 100 * stage .bottom = omega (arith, top-is) in
       rw (kc-slope s (t .number) (o .of), ← two) (sym (mul-div-mul-left (t .top) hundred (omega arith)))
 
-  pub need-is : scaled (t .top) (t .inverse) ≡ cropNeed s (t .number)
-  need-is = rw inverse-is (by-inverse (t .top) hundred some small ∙ need-quotient)
+  pub need-is : scaled (t .top) (t .reciprocal) ≡ cropNeed s (t .number)
+  need-is = rw reciprocal-is (by-reciprocal (t .top) hundred some small ∙ need-quotient)
 
-  pub need-fits : t .top * t .inverse < 18446744073709551616
-  need-fits = rw inverse-is (omega (arith, high (t .top) hundred some small, need-quotient, need-le s (t .number) v (o .of)))
+  pub need-fits : t .top * t .reciprocal < 18446744073709551616
+  need-fits = rw reciprocal-is (omega (arith, high (t .top) hundred some small, need-quotient, need-le s (t .number) v (o .of)))
 
-  -- Planned rain and root depth by their inverses.
-  raining-is : t .raining ≡ t .effective * inverse (t .length)
+  -- Planned rain and root depth by their reciprocals.
+  rain-per-day-is : t .«rain_per_day» ≡ t .effective * reciprocal (t .length)
   unfolding dayOf
-  raining-is = ap (λ (d : SeasonDay). d .raining) (o .is) ∙ ap (λ (d : SeasonDay). d .effective * inverse (d .length)) (sym (o .is))
+  rain-per-day-is = ap (λ (d : SeasonDay). d .«rain_per_day») (o .is) ∙ ap (λ (d : SeasonDay). d .effective * reciprocal (d .length)) (sym (o .is))
 
-  pub rooting-is : t .rooting ≡ rootingOf s
+  pub growth-per-day-is : t .«growth_per_day» ≡ growthPerDay s
   unfolding dayOf
-  rooting-is = ap (λ (d : SeasonDay). d .rooting) (o .is)
+  growth-per-day-is = ap (λ (d : SeasonDay). d .«growth_per_day») (o .is)
 
   module _ (d : ℕ) (few : d ≤ 31) where
     rained : t .effective * d ≤ 775000
@@ -141,11 +141,11 @@ module _ {s : Season} {t : SeasonDay} (v : Valid s) (o : OnDay s t) where
     within : t .effective * d * t .length < scale
     within = omega (arith, product (t .effective * d) (t .length) 775000 31 rained (omega (arith, day-small)))
 
-    pub rain-to-is : scaled d (t .raining) ≡ rainTo (t .effective) d (t .length)
-    rain-to-is = rw raining-is (by-inverse-product d (t .effective) (t .length) days within)
+    pub rain-to-is : scaled d (t .«rain_per_day») ≡ rainTo (t .effective) d (t .length)
+    rain-to-is = rw rain-per-day-is (by-reciprocal-product d (t .effective) (t .length) days within)
 
-    pub rain-to-fits : d * t .raining < 18446744073709551616
-    rain-to-fits = rw raining-is (omega (arith, high-product d (t .effective) (t .length) days within, div-le-self (t .effective * d) (t .length), rained))
+    pub rain-to-fits : d * t .«rain_per_day» < 18446744073709551616
+    rain-to-fits = rw rain-per-day-is (omega (arith, high-product d (t .effective) (t .length) days within, div-le-self (t .effective * d) (t .length), rained))
 
   module _ (h : t .number < s .initial + s .development) where
     rooted : (s .full - s .sowing) * t .number ≤ 120000
@@ -154,14 +154,14 @@ module _ {s : Season} {t : SeasonDay} (v : Valid s) (o : OnDay s t) where
     reach : (s .full - s .sowing) * t .number * (s .initial + s .development) < scale
     reach = omega (arith, product ((s .full - s .sowing) * t .number) (s .initial + s .development) 120000 400 rooted (omega (arith, v .ranges .initial .≤high, v .ranges .development .≤high)))
 
-    pub root-is : scaled (t .number) (t .rooting) ≡ (s .full - s .sowing) * t .number / (s .initial + s .development)
-    root-is = rw rooting-is (by-inverse-product (t .number) (s .full - s .sowing) (s .initial + s .development) (omega arith) reach)
+    pub root-is : scaled (t .number) (t .«growth_per_day») ≡ (s .full - s .sowing) * t .number / (s .initial + s .development)
+    root-is = rw growth-per-day-is (by-reciprocal-product (t .number) (s .full - s .sowing) (s .initial + s .development) (omega arith) reach)
 
     pub root-few : (s .full - s .sowing) * t .number / (s .initial + s .development) ≤ 120000
     root-few = omega (arith, div-le-self ((s .full - s .sowing) * t .number) (s .initial + s .development), rooted)
 
-    pub root-fits : t .number * t .rooting < 18446744073709551616
-    root-fits = rw rooting-is (omega (arith, high-product (t .number) (s .full - s .sowing) (s .initial + s .development) (omega arith) reach, root-few))
+    pub root-fits : t .number * t .«growth_per_day» < 18446744073709551616
+    root-fits = rw growth-per-day-is (omega (arith, high-product (t .number) (s .full - s .sowing) (s .initial + s .development) (omega arith) reach, root-few))
 
   -- ---- the day after
 

@@ -1,7 +1,7 @@
 pub mod Each
 pub mod Whole
 pub mod Laws
-pub mod Inverse
+pub mod Reciprocal
 pub mod Ramp
 pub mod Calendar
 pub mod Slopes

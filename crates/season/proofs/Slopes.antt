@@ -7,8 +7,8 @@ use borrow.Author.Tests.{le-leb, lt-leb}
 use Rattle.season.specs.declared.Season.{Season}
 use Rattle.season.specs.declared.Slope.{Slope}
 use Rattle.season.specs.Sheet.{Ranged, DayOf, seasonDays}
-use Rattle.season.specs.Carried.{flat, sloping, slopeOf}
-use Rattle.season.specs.Day.{kcOf, over}
+use Rattle.season.specs.Carried.{constant, sloping, slopeOf}
+use Rattle.season.specs.Day.{kcOf, ratio}
 use Rattle.season.proofs.Whole.{by-order}
 use Rattle.season.proofs.Ramp.{ramp-is, ramp-le}
 
@@ -23,7 +23,7 @@ module _ (s : Season) (i : ℕ) where
       by-order (s .initial + s .development + s .middle) i (h b) (λ c.
       by-order (seasonDays s) i (j c) k)))
 
-  pub in-initial : i ≤ s .initial → slopeOf s i ≡ flat (s .initial) (s .kcini)
+  pub in-initial : i ≤ s .initial → slopeOf s i ≡ constant (s .initial) (s .kcini)
   unfolding slopeOf
   in-initial h = simp (le-leb _ _ h)
 
@@ -33,7 +33,7 @@ module _ (s : Season) (i : ℕ) where
   in-development l h = simp (lt-leb _ _ l, le-leb _ _ h)
 
   pub in-middle : s .initial + s .development < i → i ≤ s .initial + s .development + s .middle
-      → slopeOf s i ≡ flat (s .initial + s .development + s .middle) (s .kcmid)
+      → slopeOf s i ≡ constant (s .initial + s .development + s .middle) (s .kcmid)
   unfolding slopeOf
   in-middle l h =
       let l₁ : s .initial < i = omega arith in
@@ -47,7 +47,7 @@ module _ (s : Season) (i : ℕ) where
       let l₂ : s .initial + s .development < i = omega arith in
       simp (lt-leb _ _ l₁, lt-leb _ _ l₂, lt-leb _ _ l, le-leb _ _ h)
 
-  pub past-season : seasonDays s < i → slopeOf s i ≡ flat (seasonDays s) 0
+  pub past-season : seasonDays s < i → slopeOf s i ≡ constant (seasonDays s) 0
   unfolding slopeOf
   past-season l =
       let l₁ : s .initial < i = omega arith in
@@ -56,7 +56,7 @@ module _ (s : Season) (i : ℕ) where
       simp (lt-leb _ _ l₁, lt-leb _ _ l₂, lt-leb _ _ l₃, lt-leb _ _ l)
 
   -- Kc is the slope's quotient.
-  pub kc-slope : DayOf s i → kcOf s i ≡ over (slopeOf s i .top) (slopeOf s i .bottom)
+  pub kc-slope : DayOf s i → kcOf s i ≡ ratio (slopeOf s i .top) (slopeOf s i .bottom)
   unfolding kcOf
   kc-slope d =
       by-stage
@@ -76,8 +76,8 @@ pub record Small (k : Slope) : Type 0 where
   pub up-le : k .up ≤ 200
   pub down-le : k .down ≤ 200
 
-small-flat : (last k : ℕ) → k ≤ 200 → Small (flat last k)
-small-flat last k h = record { some = omega arith; few = omega arith; top-le = omega arith; up-le = omega arith; down-le = omega arith }
+small-constant : (last k : ℕ) → k ≤ 200 → Small (constant last k)
+small-constant last k h = record { some = omega arith; few = omega arith; top-le = omega arith; up-le = omega arith; down-le = omega arith }
 
 small-sloping : (last kp kn l k : ℕ) → kp ≤ 200 → kn ≤ 200 → 1 ≤ l → l ≤ 200 → k ≤ l → Small (sloping last kp kn l k)
 small-sloping last kp kn l k hp hn h1 hl hk = record { some = h1; few = hl; top-le = ramp-le kp kn l k 200 hk hp hn; up-le = hn; down-le = hp }
@@ -85,11 +85,11 @@ small-sloping last kp kn l k hp hn h1 hl hk = record { some = h1; few = hl; top-
 pub slope-small : (s : Season) (i : ℕ) → Ranged s → Small (slopeOf s i)
 slope-small s i r =
     by-stage s i
-    (λ h. rw (in-initial s i h) (small-flat _ _ (r .kcini .≤high)))
+    (λ h. rw (in-initial s i h) (small-constant _ _ (r .kcini .≤high)))
     (λ l h. rw (in-development s i l h) (small-sloping _ _ _ _ _ (r .kcini .≤high) (r .kcmid .≤high) (r .development .low≤) (r .development .≤high) (omega arith)))
-    (λ l h. rw (in-middle s i l h) (small-flat _ _ (r .kcmid .≤high)))
+    (λ l h. rw (in-middle s i l h) (small-constant _ _ (r .kcmid .≤high)))
     (λ l h. rw (in-late s i l h) (small-sloping _ _ _ _ _ (r .kcmid .≤high) (r .kcend .≤high) (r .late .low≤) (r .late .≤high) (omega arith)))
-    (λ l. rw (past-season s i l) (small-flat _ 0 (omega arith)))
+    (λ l. rw (past-season s i l) (small-constant _ 0 (omega arith)))
 
 -- The next day of a stage: its top is `up` less `down` more.
 pub record Next (a b : Slope) : Type 0 where
@@ -99,8 +99,8 @@ pub record Next (a b : Slope) : Type 0 where
   pub down : b .down ≡ a .down
   pub last : b .last ≡ a .last
 
-next-flat : (last k : ℕ) → Next (flat last k) (flat last k)
-next-flat last k = record { top = refl; bottom = refl; up = refl; down = refl; last = refl }
+next-constant : (last k : ℕ) → Next (constant last k) (constant last k)
+next-constant last k = record { top = refl; bottom = refl; up = refl; down = refl; last = refl }
 
 next-sloping : (last kp kn l k : ℕ) → k + 1 ≤ l → Next (sloping last kp kn l k) (sloping last kp kn l (k + 1))
 next-sloping last kp kn l k h = record {
@@ -120,14 +120,14 @@ slope-next s i =
     by-stage s i
     (λ h more. let e = in-initial s i h in
     let m : i < s .initial = rw e at more in
-    rw (e, in-initial s (i + 1) (omega arith)) (next-flat _ _))
+    rw (e, in-initial s (i + 1) (omega arith)) (next-constant _ _))
     (λ l h more. let e = in-development s i l h in
     let m : i < s .initial + s .development = rw e at more in
     let k : i + 1 - s .initial ≡ i - s .initial + 1 = omega arith in
     rw (e, in-development s (i + 1) (omega arith) (omega arith), k) (next-sloping _ _ _ _ _ (omega arith)))
     (λ l h more. let e = in-middle s i l h in
     let m : i < s .initial + s .development + s .middle = rw e at more in
-    rw (e, in-middle s (i + 1) (omega arith) (omega arith)) (next-flat _ _))
+    rw (e, in-middle s (i + 1) (omega arith) (omega arith)) (next-constant _ _))
     (λ l h more. let e = in-late s i l h in
     let m : i < seasonDays s = rw e at more in
     let k : i + 1 - (s .initial + s .development + s .middle) ≡ i - (s .initial + s .development + s .middle) + 1 = omega arith in

@@ -1,26 +1,32 @@
 -- What the code carries from day to day in place of divisions. Nothing here is document 01's: `crop_need`, `rain_to`, `total_on` and `ready_on` are
 -- equated with its rules, whatever is carried.
 use mathlib.Core.Bool.{cond}
-use Prim.Native.Nat.{ℕ, _+_, _-_, _*_, _/_}
+use mathlib.Core.Path.{_≡_}
+use Prim.Native.Nat.{ℕ, zero, suc, _+_, _-_, _*_, _/_, min}
 use lib.Dec.{leb}
+use Rattle.season.specs.Calendar.{monthDays}
+use Rattle.season.specs.Sheet.{DayOf}
 use Rattle.season.specs.Rules.{ramp}
+use Rattle.season.specs.Day.{dateOf, etoIn, effectiveIn, cropNeed}
 use Rattle.season.specs.declared.Season.{Season}
+use Rattle.season.specs.declared.Date.{Date}
+use Rattle.season.specs.declared.SeasonDay.{SeasonDay}
 use Rattle.season.specs.declared.Slope.{Slope}
 
 -- 2^44.
 abbrev pub scale : ℕ
 scale = 17592186044416
 
--- The inverse of d on that scale, and x times an inverse, taken off the scale: x / d (`by-inverse`, proofs/Inverse.antt).
-abbrev pub inverse : ℕ → ℕ
-inverse d = scale / d + 1
+-- The reciprocal of d on that scale, and x times a reciprocal, taken off the scale: x / d (`by-reciprocal`, proofs/Reciprocal.antt).
+abbrev pub reciprocal : ℕ → ℕ
+reciprocal d = scale / d + 1
 
 abbrev pub scaled : ℕ → ℕ → ℕ
 scaled x i = x * i / scale
 
 -- A stage of one coefficient, and day k of a stage of L days that goes from Kp to Kn; both up to the day `last`.
-abbrev pub flat : ℕ → ℕ → Slope
-flat last kc = record { top = kc; bottom = 1; up = 0; down = 0; last = last }
+abbrev pub constant : ℕ → ℕ → Slope
+constant last kc = record { top = kc; bottom = 1; up = 0; down = 0; last = last }
 
 abbrev pub sloping : ℕ → ℕ → ℕ → ℕ → ℕ → Slope
 sloping last kp kn l k = record { top = ramp kp kn l k; bottom = l; up = kn; down = kp; last = last }
@@ -28,9 +34,46 @@ sloping last kp kn l k = record { top = ramp kp kn l k; bottom = l; up = kn; dow
 -- The stage of day i. Past the season there is none.
 unfoldable pub slopeOf : Season → ℕ → Slope
 slopeOf s i =
-    cond (leb i (s .initial)) (flat (s .initial) (s .kcini))
+    cond (leb i (s .initial)) (constant (s .initial) (s .kcini))
     (cond (leb i (s .initial + s .development)) (sloping (s .initial + s .development) (s .kcini) (s .kcmid) (s .development) (i - s .initial))
-    (cond (leb i (s .initial + s .development + s .middle)) (flat (s .initial + s .development + s .middle) (s .kcmid))
+    (cond (leb i (s .initial + s .development + s .middle)) (constant (s .initial + s .development + s .middle) (s .kcmid))
     (cond (leb i (s .initial + s .development + s .middle + s .late))
     (sloping (s .initial + s .development + s .middle + s .late) (s .kcmid) (s .kcend) (s .late) (i - (s .initial + s .development + s .middle)))
-    (flat (s .initial + s .development + s .middle + s .late) 0))))
+    (constant (s .initial + s .development + s .middle + s .late) 0))))
+
+-- What the roots grow, times the reciprocal of G.
+abbrev pub growthPerDay : Season → ℕ
+growthPerDay s = (s .full - s .sowing) * reciprocal (s .initial + s .development)
+
+-- A season day as the code carries it from day to day: its number, its date, its month's length and effective rain; crop need as a quotient,
+-- whose top grows by `up` less `down` on each of the `left` days after it in its month and stage; the reciprocal of 100 × L, the effective rain
+-- times the reciprocal of the month's length, and what the roots grow.
+abbrev pub onDate : Season → ℕ → Date → SeasonDay
+onDate s i t =
+    record {
+      number = i;
+      month = t .month;
+      day = t .day;
+      length = monthDays (t .month);
+      effective = effectiveIn s (t .month);
+      left = min (monthDays (t .month) - t .day) (slopeOf s i .last - i);
+      top = etoIn s (t .month) * slopeOf s i .top + 50 * slopeOf s i .bottom;
+      up = etoIn s (t .month) * slopeOf s i .up;
+      down = etoIn s (t .month) * slopeOf s i .down;
+      reciprocal = reciprocal (100 * slopeOf s i .bottom);
+      «rain_per_day» = effectiveIn s (t .month) * reciprocal (monthDays (t .month));
+      «growth_per_day» = growthPerDay s;
+    }
+
+unfoldable pub dayOf : Season → ℕ → SeasonDay
+dayOf s i = onDate s i (dateOf s i)
+
+-- t is a day of the season s.
+pub record OnDay (s : Season) (t : SeasonDay) : Type 0 where
+  pub is : t ≡ dayOf s (t .number)
+  pub of : DayOf s (t .number)
+
+-- The sum of C over the k days after day i.
+unfoldable pub needsAfter : Season → ℕ → ℕ → ℕ
+needsAfter s i zero = 0
+needsAfter s i (suc k) = needsAfter s i k + cropNeed s (i + suc k)

@@ -2,9 +2,9 @@
 pub mod Calendar
 pub mod Sheet
 pub mod Rules
-pub mod Carried
 pub mod Day
 pub mod Closing
 pub mod Depths
+pub mod Carried
 pub mod Cases
 pub mod Claims

@@ -5,8 +5,8 @@ ghost use Prim.Native.Nat.{_+_, _-_, _*_, _≤_, _<_, min};
 ghost use Rattle.season.specs.Calendar.{monthDays, monthAfter, dateIs, nextDay, Proper};
 ghost use Rattle.season.specs.Sheet.{Ranged, Valid, DayOf, seasonDays};
 ghost use Rattle.season.specs.Rules.{ramp, effectiveRain, rainTo};
-ghost use Rattle.season.specs.Carried.{inverse, scaled, flat, sloping, slopeOf};
-ghost use Rattle.season.specs.Day.{dateOf, kcOf, cropNeed, needsAfter, rootOn, totalOn, readyOn, rootingOf, onDate, dayOf, OnDay};
+ghost use Rattle.season.specs.Carried.{reciprocal, scaled, constant, sloping, slopeOf, needsAfter, growthPerDay, onDate, dayOf, OnDay};
+ghost use Rattle.season.specs.Day.{dateOf, kcOf, cropNeed, rootOn, totalOn, readyOn};
 ghost use Rattle.season.specs.Closing.{cropUse, closeDay, Closable};
 ghost use Rattle.season.specs.Depths.{grossOf};
 
@@ -51,8 +51,8 @@ struct Slope {
 
 // A season day as it is carried from day to day, so that neither a walk over the year nor a division is made for each: its number, its
 // date, and its month's length and effective rain. Crop need is `top` / (100 × L), where half a point is in `top`; the `left` days after
-// this one are of its month and its stage, and there `top` grows by `up` less `down` a day. Then the inverse of 100 × L; effective rain
-// times the inverse of the month's length, and what the roots grow times the inverse of G.
+// this one are of its month and its stage, and there `top` grows by `up` less `down` a day. Then the reciprocal of 100 × L; effective rain
+// times the reciprocal of the month's length, and what the roots grow times the reciprocal of G.
 pub struct SeasonDay {
     pub number: u32,
     pub month: u32,
@@ -63,9 +63,9 @@ pub struct SeasonDay {
     pub top: u32,
     pub up: u32,
     pub down: u32,
-    pub inverse: u64,
-    pub raining: u64,
-    pub rooting: u64,
+    pub reciprocal: u64,
+    pub rain_per_day: u64,
+    pub growth_per_day: u64,
 }
 
 // A crop coefficient in hundredths, top / bottom, not rounded.
@@ -90,13 +90,13 @@ pub struct Gross(u32);
 // ---- numbers
 
 // a - b, or 0 where b is larger.
-pub fn less(a: u32, b: u32) -> u32
+pub fn saturating_sub(a: u32, b: u32) -> u32
     ensures { λ r. ⌜ r ≡ a - b ⌝ }
 {
     if b <= a { a - b } else { 0 }
 }
 
-fn smaller(a: u32, b: u32) -> u32
+fn min(a: u32, b: u32) -> u32
     ensures { λ r. ⌜ r ≡ min a b ⌝ }
 {
     if a <= b { a } else { b }
@@ -105,20 +105,20 @@ fn smaller(a: u32, b: u32) -> u32
 // 2^44.
 const SCALE: u64 = 17592186044416;
 
-// The inverse of d on that scale: a product with it stands in place of a division by d.
-fn inverse_of(d: u32) -> u64
+// The reciprocal of d on that scale: a product with it stands in place of a division by d.
+fn reciprocal_of(d: u32) -> u64
     requires { ⌜ 0 < d ⌝ }
-    ensures { λ r. ⌜ r ≡ inverse d ⌝ }
+    ensures { λ r. ⌜ r ≡ reciprocal d ⌝ }
 {
     SCALE / d as u64 + 1
 }
 
-// x / d by the inverse of d, and x × y / d by y times it (`by-inverse`, proofs/Inverse.antt).
-fn quotient(x: u32, inverse: u64) -> u32
-    requires { ⌜ x * inverse < 18446744073709551616 ⌝ }
-    ensures { λ r. ⌜ r ≡ scaled x inverse ⌝ }
+// x / d by the reciprocal of d, and x × y / d by y times it (`by-reciprocal`, proofs/Reciprocal.antt).
+fn quotient(x: u32, reciprocal: u64) -> u32
+    requires { ⌜ x * reciprocal < 18446744073709551616 ⌝ }
+    ensures { λ r. ⌜ r ≡ scaled x reciprocal ⌝ }
 {
-    (x as u64 * inverse / SCALE) as u32
+    (x as u64 * reciprocal / SCALE) as u32
 }
 
 // ---- the sheet
@@ -180,8 +180,8 @@ fn ramp_of(before: u32, after: u32, days: u32, day: u32) -> u32
 }
 
 // A stage of one coefficient.
-fn flat_to(last: u32, kc: u32) -> Slope
-    ensures { λ r. ⌜ r ≡ flat last kc ⌝ }
+fn constant_to(last: u32, kc: u32) -> Slope
+    ensures { λ r. ⌜ r ≡ constant last kc ⌝ }
 {
     Slope {
         top: kc,
@@ -216,18 +216,18 @@ fn slope_of(s: Season, day: u32) -> Slope
     let ripe = grown + s.middle;
     let end = ripe + s.late;
     if day <= sown {
-        return flat_to(sown, s.kcini);
+        return constant_to(sown, s.kcini);
     }
     if day <= grown {
         return sloping_to(grown, s.kcini, s.kcmid, s.development, day - sown);
     }
     if day <= ripe {
-        return flat_to(ripe, s.kcmid);
+        return constant_to(ripe, s.kcmid);
     }
     if day <= end {
         return sloping_to(end, s.kcmid, s.kcend, s.late, day - ripe);
     }
-    flat_to(end, 0)
+    constant_to(end, 0)
 }
 
 pub fn kc_of(s: Season, day: u32) -> Kc
@@ -248,7 +248,7 @@ pub fn crop_need(s: Season, t: SeasonDay) -> u32
     requires { ⌜ OnDay s t ⌝ }
     ensures { λ r. ⌜ r ≡ cropNeed s (t .number) ⌝ }
 {
-    quotient(t.top, t.inverse)
+    quotient(t.top, t.reciprocal)
 }
 
 // Root depth Z. Roots are full grown on day G.
@@ -257,7 +257,7 @@ fn root_depth(s: Season, day: u32) -> u32
     ensures { λ r. ⌜ r ≡ rootOn s day ⌝ }
 {
     let growing = s.initial + s.development;
-    let growth = less(s.full, s.sowing);
+    let growth = saturating_sub(s.full, s.sowing);
     if growing <= day {
         return s.sowing + growth;
     }
@@ -279,9 +279,9 @@ fn root_on(s: Season, t: SeasonDay) -> u32
     ensures { λ r. ⌜ r ≡ rootOn s (t .number) ⌝ }
 {
     if s.initial + s.development <= t.number {
-        return s.sowing + less(s.full, s.sowing);
+        return s.sowing + saturating_sub(s.full, s.sowing);
     }
-    s.sowing + quotient(t.number, t.rooting)
+    s.sowing + quotient(t.number, t.growth_per_day)
 }
 
 // T on a season day.
@@ -320,25 +320,25 @@ pub fn rain_to(s: Season, t: SeasonDay, d: u32) -> u32
     requires { ⌜ d ≤ 31 ⌝ }
     ensures { λ r. ⌜ r ≡ rainTo (t .effective) d (t .length) ⌝ }
 {
-    quotient(d, t.raining)
+    quotient(d, t.rain_per_day)
 }
 
 // ---- from day to day
 
-// What the roots grow, times the inverse of G.
-fn rooting_of(s: Season) -> u64
+// What the roots grow, times the reciprocal of G.
+fn growth_per_day(s: Season) -> u64
     requires { ⌜ Ranged s ⌝ }
-    ensures { λ r. ⌜ r ≡ rootingOf s ⌝ }
+    ensures { λ r. ⌜ r ≡ growthPerDay s ⌝ }
 {
-    less(s.full, s.sowing) as u64 * inverse_of(s.initial + s.development)
+    saturating_sub(s.full, s.sowing) as u64 * reciprocal_of(s.initial + s.development)
 }
 
 // A season day on a date. What the roots grow comes along. The months' numbers are copied first: an index into them does not then hold the
 // whole season in memory.
-fn on_date(s: Season, number: u32, date: Date, rooting: u64) -> SeasonDay
+fn on_date(s: Season, number: u32, date: Date, growth: u64) -> SeasonDay
     requires { ⌜ Valid s ⌝ }
     requires { ⌜ Proper date ⌝ }
-    requires { ⌜ rooting ≡ rootingOf s ⌝ }
+    requires { ⌜ growth ≡ growthPerDay s ⌝ }
     ensures { λ r. ⌜ r ≡ onDate s number date ⌝ }
 {
     let at = (date.month - 1) as usize;
@@ -354,13 +354,13 @@ fn on_date(s: Season, number: u32, date: Date, rooting: u64) -> SeasonDay
         day: date.day,
         length,
         effective,
-        left: smaller(length - date.day, less(slope.last, number)),
+        left: min(length - date.day, saturating_sub(slope.last, number)),
         top: eto * slope.top + 50 * slope.bottom,
         up: eto * slope.up,
         down: eto * slope.down,
-        inverse: inverse_of(100 * slope.bottom),
-        raining: effective as u64 * inverse_of(length),
-        rooting,
+        reciprocal: reciprocal_of(100 * slope.bottom),
+        rain_per_day: effective as u64 * reciprocal_of(length),
+        growth_per_day: growth,
     }
 }
 
@@ -373,7 +373,7 @@ pub fn first_day(s: Season) -> SeasonDay
         month: s.month,
         day: s.first,
     };
-    on_date(s, 1, date, rooting_of(s))
+    on_date(s, 1, date, growth_per_day(s))
 }
 
 // A season day by its number.
@@ -382,7 +382,7 @@ pub fn day_of(s: Season, number: u32) -> SeasonDay
     requires { ⌜ DayOf s number ⌝ }
     ensures { λ r. ⌜ r ≡ dayOf s number ⌝ }
 {
-    on_date(s, number, date_of(s, number), rooting_of(s))
+    on_date(s, number, date_of(s, number), growth_per_day(s))
 }
 
 // So many days on, in the same month and stage.
@@ -402,9 +402,9 @@ pub fn further_on(s: Season, t: SeasonDay, days: u32) -> SeasonDay
         top: t.top + days * t.up - days * t.down,
         up: t.up,
         down: t.down,
-        inverse: t.inverse,
-        raining: t.raining,
-        rooting: t.rooting,
+        reciprocal: t.reciprocal,
+        rain_per_day: t.rain_per_day,
+        growth_per_day: t.growth_per_day,
     }
 }
 
@@ -435,7 +435,7 @@ pub fn next_day(s: Season, t: SeasonDay) -> SeasonDay
     if 0 < t.left {
         return further_on(s, t, 1);
     }
-    on_date(s, t.number + 1, date_after(t), t.rooting)
+    on_date(s, t.number + 1, date_after(t), t.growth_per_day)
 }
 
 // The crop needs of the `days` after t in its month and stage, in all.
@@ -446,14 +446,14 @@ pub fn need_after(s: Season, t: SeasonDay, days: u32) -> u32
     ensures { λ r. ⌜ r ≡ needsAfter s (t .number) days ⌝ }
 {
     if t.up == t.down {
-        return days * quotient(t.top, t.inverse);
+        return days * quotient(t.top, t.reciprocal);
     }
     let mut top = t.top;
     let mut sum: u32 = 0;
     let mut i: u32 = 0;
     while i < days {
         top = top + t.up - t.down;
-        sum += quotient(top, t.inverse);
+        sum += quotient(top, t.reciprocal);
         i += 1;
     }
     sum
@@ -468,24 +468,24 @@ fn crop_use(d1: u32, need: u32, total: u32, ready: u32) -> u32
 {
     let rest = total - d1;
     if d1 <= ready {
-        return smaller(need, rest);
+        return min(need, rest);
     }
     let share = need * rest / (total - ready);
     if need <= total - ready {
         return share;
     }
-    smaller(share, rest)
+    min(share, rest)
 }
 
 pub fn close_day(depletion: u32, water: u32, need: u32, total: u32, ready: u32) -> DayClose
     requires { ⌜ Closable depletion water need total ready ⌝ }
     ensures { λ r. ⌜ r ≡ closeDay depletion water need total ready ⌝ }
 {
-    let d1 = less(depletion, water);
+    let d1 = saturating_sub(depletion, water);
     let used = crop_use(d1, need, total, ready);
     DayClose {
         used,
-        percolated: less(water, depletion),
+        percolated: saturating_sub(water, depletion),
         depletion: d1 + used,
     }
 }

@@ -12,7 +12,7 @@ use Rattle.leb128.specs.declared.Number.the-variants.{Whole, Short, Bad}
 use Rattle.leb128.specs.Groups.{encode}
 use Rattle.leb128.specs.Forms.{decode}
 use Rattle.leb128.proofs.Laws.{canonical}
-use Rattle.season.specs.Day.{Sown}
+use Rattle.season.specs.Day.{AcceptedSeason}
 use Rattle.verdict.specs.declared.Verdict.{Verdict}
 use Rattle.verdict.specs.declared.Verdict.the-variants.{Accepted, Refused}
 use Rattle.leb128.specs.Claims.{Bytes}
@@ -98,7 +98,7 @@ is-accepted b e = go (numbersRead b .verdict) refl (fieldsVerdict (numbersRead b
         record { count = n .count; verdict = q; sheet = rw (p, q); as-written = n .as-written }
 
 -- So its season is that of an accepted sheet.
-pub accepted-sown : (b : List ℕ) → sheetOf b .verdict ≡ Accepted → Sown (sheetOf b .season)
-accepted-sown b e =
+pub accepted-season : (b : List ℕ) → sheetOf b .verdict ≡ Accepted → AcceptedSeason (sheetOf b .season)
+accepted-season b e =
     let a = is-accepted b e in
     rw (a .sheet) (accepted-sound (numbersRead b .fields) (a .count) (a .verdict) .sown)

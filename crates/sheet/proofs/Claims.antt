@@ -10,7 +10,7 @@ use Rattle.sheet.specs.Sheets.{fieldsVerdict, sheetOf}
 use Rattle.sheet.specs.Cases.{cases}
 use Rattle.sheet.specs.Claims.{Claims}
 use Rattle.sheet.proofs.Verdicts.{refused-empty}
-use Rattle.sheet.proofs.Accepted.{accepted-sown, is-accepted}
+use Rattle.sheet.proofs.Accepted.{accepted-season, is-accepted}
 use Rattle.sheet.proofs.Written.{written-accepted}
 use Rattle.sheet.proofs.Lengths.{accepted-length}
 use Rattle.sheet.proofs.Start.{first-bytes-decide}
@@ -19,7 +19,7 @@ use Rattle.sheet.proofs.Numbered.{refused-number}
 pub claims : Claims
 unfolding encode overGroups overIn decode decodeFrom below orRefused before numbers ended numbersRead written outside lowestOutside fieldsVerdict sheetOf cases season.small
 claims = record {
-  accepted-sown = accepted-sown;
+  accepted-season = accepted-season;
   refused-empty = refused-empty;
   refused-number = refused-number;
   written-accepted = written-accepted;

@@ -7,7 +7,7 @@ use borrow.Author.Tests.{lt-ltb, le-ltb, ltb-false}
 use lib.Dec.{ltb}
 use lib.ListN.{length, drop, replicate}
 use Rattle.season.specs.Sheet.{seasonDays, longestSeason}
-use Rattle.season.specs.Day.{totalOn, Sown}
+use Rattle.season.specs.Day.{totalOn, AcceptedSeason}
 use Rattle.verdict.specs.declared.Verdict.{Verdict}
 use Rattle.season.specs.declared.Season.{Season}
 use Rattle.verdict.specs.declared.Verdict.the-variants.{Accepted, Refused}
@@ -37,7 +37,7 @@ chain f s n t v₅ v₆ v₇ z a b d e₅ e₆ e₇ =
 -- What an accepted list of forty numbers is.
 pub record Sound (f : List ℕ) : Type 0 where
   pub no-field : fieldAtFault f ≡ 0
-  pub sown : Sown (seasonOf f)
+  pub sown : AcceptedSeason (seasonOf f)
 
 pub accepted-sound : (f : List ℕ) → length f ≡ 40 → fieldsVerdict f ≡ Accepted → Sound f
 unfolding fieldsVerdict

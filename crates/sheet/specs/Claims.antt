@@ -4,7 +4,7 @@ use mathlib.Core.List.{List, _++_, map}
 use Prim.Native.Nat.{ℕ, _≤_}
 use lib.ListN.{length}
 use Rattle.leb128.specs.Claims.{Bytes}
-use Rattle.season.specs.Day.{Sown}
+use Rattle.season.specs.Day.{AcceptedSeason}
 use Rattle.season.specs.Cases as season
 use Rattle.verdict.specs.declared.Verdict.the-variants.{Accepted, Refused}
 use Rattle.sheet.specs.Numbers.{numbersRead, written}
@@ -14,7 +14,7 @@ use Rattle.sheet.specs.Cases.{small, cases}
 
 pub record Claims : Type 0 where
   -- An accepted sheet's season is in its ranges, at most 365 days long, with Z0 at most Zm and an opening depletion of at most T on day 1.
-  pub accepted-sown : (b : List ℕ) → sheetOf b .verdict ≡ Accepted → Sown (sheetOf b .season)
+  pub accepted-season : (b : List ℕ) → sheetOf b .verdict ≡ Accepted → AcceptedSeason (sheetOf b .season)
   -- A refused sheet's numbers are all 0.
   pub refused-empty : (b : List ℕ) (number value : ℕ) → sheetOf b .verdict ≡ Refused number value → sheetOf b ≡ refusal number value
   -- Its refusal is one of 1 to 7.

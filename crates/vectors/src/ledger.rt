@@ -96,8 +96,8 @@ fn ledger_number(l: Ledger, which: u32) -> u64 {
     match which {
         1 => l.day as u64,
         2 => l.depletion as u64,
-        3 => l.waitingrain as u64,
-        4 => l.waitingirrigation as u64,
+        3 => l.waiting_rain as u64,
+        4 => l.waiting_irrigation as u64,
         5 => l.rain as u64,
         6 => l.irrigation as u64,
         7 => l.used as u64,

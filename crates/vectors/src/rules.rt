@@ -210,7 +210,7 @@ pub fn answer(rule: u32, numbers: &[u32], fields: [u32; 40]) -> u64 {
     match rule {
         RAIN => rain(a),
         GROSS => gross(a, b),
-        NET => season::less(a, b) as u64,
+        NET => season::saturating_sub(a, b) as u64,
         USE => close(a, 0, b, get(numbers, 5), get(numbers, 6)).used as u64,
         _ => {
             let mut bytes = [0u8; 121];

@@ -4,7 +4,7 @@ use decades::Tabled;
 use planner::Planned;
 use season::Season;
 use verdict::Verdict;
-ghost use Rattle.season.specs.Day.{Sown};
+ghost use Rattle.season.specs.Day.{AcceptedSeason};
 
 // A day's numbers: Kc in thousandths of a hundredth, the date as month × 100 + day, C, T and R.
 pub struct DayNumbers {
@@ -93,7 +93,7 @@ fn thousandths(top: u32, bottom: u32) -> u64 {
 
 // The numbers of a day of the season, or all 0 where it has no such day.
 pub fn season_day(s: Season, day: u32) -> DayNumbers
-    requires { ⌜ Sown s ⌝ }
+    requires { ⌜ AcceptedSeason s ⌝ }
 {
     if day < 1 {
         return nothing();

@@ -1,5 +1,5 @@
 -- Document 01, 'Why the controller says no': the first that applies, read downward.
-use Prim.Native.Nat.{ℕ}
+use Prim.Native.Nat.{ℕ, zero, suc}
 use mathlib.Core.Bool.{Bool, cond}
 use mathlib.Core.List.{List, [], _∷_}
 use Rattle.verdict.specs.declared.Verdict.{Verdict}
@@ -15,7 +15,17 @@ abbrev pub firstOf : Verdict → List (Bool × ℕ × ℕ) → Verdict
 firstOf v [] = v
 firstOf v (r ∷ rs) = firstOf (orRefused v (r .0) (r .1) (r .2)) rs
 
--- The numbers of an answer: the refusal's number and the number returned with it, or 0 and 0 where none applies.
+-- The numbers of an answer: 0, 0 and what an accepted call answers; or the refusal's number and the number returned with it.
+abbrev pub numbersThen : Verdict → List ℕ → List ℕ
+numbersThen Accepted ns = 0 ∷ 0 ∷ ns
+numbersThen (Refused number value) ns = number ∷ value ∷ []
+
 abbrev pub numbersOf : Verdict → List ℕ
-numbersOf Accepted = 0 ∷ 0 ∷ []
-numbersOf (Refused number value) = number ∷ value ∷ []
+numbersOf v = numbersThen v []
+
+-- The verdict that an answer's numbers begin with: 0 stands for an accepted call.
+abbrev pub verdictOf : List ℕ → Verdict
+verdictOf [] = Accepted
+verdictOf (zero ∷ ns) = Accepted
+verdictOf (suc n ∷ []) = Accepted
+verdictOf (suc n ∷ value ∷ ns) = Refused (suc n) value

@@ -5,42 +5,42 @@ pub type Out = [u32; 12];
 
 mod c {
     extern "C" {
-        pub fn controller_open(sheet: *const u8, sheet_length: usize, area: *const u8, area_length: usize, out: *mut u32);
-        pub fn controller_rain(sheet: *const u8, sheet_length: usize, area: *const u8, area_length: usize, amount: u32, out: *mut u32);
-        pub fn controller_irrigation(sheet: *const u8, sheet_length: usize, area: *const u8, area_length: usize, amount: u32, out: *mut u32);
-        pub fn controller_close(sheet: *const u8, sheet_length: usize, area: *const u8, area_length: usize, out: *mut u32);
-        pub fn controller_mend(sheet: *const u8, sheet_length: usize, area: *const u8, area_length: usize, out: *mut u32);
-        pub fn controller_plan(
+        pub fn balladsky_open(sheet: *const u8, sheet_length: usize, area: *const u8, area_length: usize, out: *mut u32);
+        pub fn balladsky_rain(sheet: *const u8, sheet_length: usize, area: *const u8, area_length: usize, amount: u32, out: *mut u32);
+        pub fn balladsky_irrigation(sheet: *const u8, sheet_length: usize, area: *const u8, area_length: usize, amount: u32, out: *mut u32);
+        pub fn balladsky_close(sheet: *const u8, sheet_length: usize, area: *const u8, area_length: usize, out: *mut u32);
+        pub fn balladsky_mend(sheet: *const u8, sheet_length: usize, area: *const u8, area_length: usize, out: *mut u32);
+        pub fn balladsky_plan(
             sheet: *const u8, sheet_length: usize, area: *const u8, area_length: usize, depths: *mut u32, depths_length: usize, out: *mut u32,
         );
-        pub fn controller_table(sheet: *const u8, sheet_length: usize, rows: *mut u32, rows_length: usize, out: *mut u32);
+        pub fn balladsky_table(sheet: *const u8, sheet_length: usize, rows: *mut u32, rows_length: usize, out: *mut u32);
     }
 }
 
 pub fn open(sheet: &[u8], area: &[u8], out: &mut Out) {
-    unsafe { c::controller_open(sheet.as_ptr(), sheet.len(), area.as_ptr(), area.len(), out.as_mut_ptr()) }
+    unsafe { c::balladsky_open(sheet.as_ptr(), sheet.len(), area.as_ptr(), area.len(), out.as_mut_ptr()) }
 }
 
 pub fn rain(sheet: &[u8], area: &[u8], amount: u32, out: &mut Out) {
-    unsafe { c::controller_rain(sheet.as_ptr(), sheet.len(), area.as_ptr(), area.len(), amount, out.as_mut_ptr()) }
+    unsafe { c::balladsky_rain(sheet.as_ptr(), sheet.len(), area.as_ptr(), area.len(), amount, out.as_mut_ptr()) }
 }
 
 pub fn irrigation(sheet: &[u8], area: &[u8], amount: u32, out: &mut Out) {
-    unsafe { c::controller_irrigation(sheet.as_ptr(), sheet.len(), area.as_ptr(), area.len(), amount, out.as_mut_ptr()) }
+    unsafe { c::balladsky_irrigation(sheet.as_ptr(), sheet.len(), area.as_ptr(), area.len(), amount, out.as_mut_ptr()) }
 }
 
 pub fn close(sheet: &[u8], area: &[u8], out: &mut Out) {
-    unsafe { c::controller_close(sheet.as_ptr(), sheet.len(), area.as_ptr(), area.len(), out.as_mut_ptr()) }
+    unsafe { c::balladsky_close(sheet.as_ptr(), sheet.len(), area.as_ptr(), area.len(), out.as_mut_ptr()) }
 }
 
 pub fn mend(sheet: &[u8], area: &[u8], out: &mut Out) {
-    unsafe { c::controller_mend(sheet.as_ptr(), sheet.len(), area.as_ptr(), area.len(), out.as_mut_ptr()) }
+    unsafe { c::balladsky_mend(sheet.as_ptr(), sheet.len(), area.as_ptr(), area.len(), out.as_mut_ptr()) }
 }
 
 pub fn plan(sheet: &[u8], area: &[u8], depths: &mut [u32], out: &mut Out) {
-    unsafe { c::controller_plan(sheet.as_ptr(), sheet.len(), area.as_ptr(), area.len(), depths.as_mut_ptr(), depths.len(), out.as_mut_ptr()) }
+    unsafe { c::balladsky_plan(sheet.as_ptr(), sheet.len(), area.as_ptr(), area.len(), depths.as_mut_ptr(), depths.len(), out.as_mut_ptr()) }
 }
 
 pub fn table(sheet: &[u8], rows: &mut [u32], out: &mut Out) {
-    unsafe { c::controller_table(sheet.as_ptr(), sheet.len(), rows.as_mut_ptr(), rows.len(), out.as_mut_ptr()) }
+    unsafe { c::balladsky_table(sheet.as_ptr(), sheet.len(), rows.as_mut_ptr(), rows.len(), out.as_mut_ptr()) }
 }

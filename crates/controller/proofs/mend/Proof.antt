@@ -1,7 +1,7 @@
 -- The answer goes by what reading the sheet answered.
 use mathlib.Core.Path.{sym, _∙_}
 use denote.Ref.{now}
-use Rattle.controller.proofs.Sheets.{sheet-refused, sheet-accepted, read-sown}
+use Rattle.controller.proofs.Sheets.{sheet-refused, sheet-accepted, read-accepted-season}
 use Rattle.journal.specs.Calls.{notMended, mended}
 use borrow.Author.Needs.{needs}
 use Rattle.controller.proofs.mend.Statement.{statement}
@@ -20,7 +20,7 @@ enum-told : tie.Need-enum-told
 enum-told c = search needs
 
 mend-requires : tie.Need-mend-requires
-mend-requires c κs = read-sown _ (c .before .before .before .read .result) (c .before .before .before .read .ensures) (c .enum-told .given .1)
+mend-requires c κs = read-accepted-season _ (c .before .before .before .read .result) (c .before .before .before .read .ensures) (c .enum-told .given .1)
 
 returns : tie.Need-returns
 returns c =

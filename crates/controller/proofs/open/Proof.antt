@@ -1,7 +1,7 @@
 -- The answer goes by what reading the sheet answered.
 use mathlib.Core.Path.{sym, _∙_}
 use denote.Ref.{now}
-use Rattle.controller.proofs.Sheets.{sheet-refused, sheet-accepted, read-sown}
+use Rattle.controller.proofs.Sheets.{sheet-refused, sheet-accepted, read-accepted-season}
 use Rattle.journal.specs.declared.Opening.the-variants.{Refused}
 use Rattle.journal.specs.Opening.{opening}
 use borrow.Author.Needs.{needs}
@@ -18,7 +18,7 @@ enum-told : tie.Need-enum-told
 enum-told c = search needs
 
 open-requires : tie.Need-open-requires
-open-requires c κs = read-sown _ (c .before .before .before .read .result) (c .before .before .before .read .ensures) (c .enum-told .given .1)
+open-requires c κs = read-accepted-season _ (c .before .before .before .read .result) (c .before .before .before .read .ensures) (c .enum-told .given .1)
 
 returns : tie.Need-returns
 returns c =

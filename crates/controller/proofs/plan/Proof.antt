@@ -1,7 +1,7 @@
 -- The answer goes by what reading the sheet answered.
 use mathlib.Core.Path.{sym, _∙_}
 use denote.Ref.{now}
-use Rattle.controller.proofs.Sheets.{sheet-refused, sheet-accepted, read-sown}
+use Rattle.controller.proofs.Sheets.{sheet-refused, sheet-accepted, read-accepted-season}
 use Rattle.planner.specs.declared.Planned.the-variants.{Refused}
 use Rattle.journal.specs.Opening.{opening}
 use Rattle.controller.specs.Calls.{plannedOn}
@@ -22,7 +22,7 @@ plan-season-requires : tie.Need-plan-season-requires
 plan-season-requires c κs =
     let at-enum-told = c .before in
     let at-read = at-enum-told .before .before .before in
-    read-sown _ (at-read .read .result) (at-read .read .ensures) (at-enum-told .enum-told .given .1)
+    read-accepted-season _ (at-read .read .result) (at-read .read .ensures) (at-enum-told .enum-told .given .1)
 
 returns : tie.Need-returns
 returns c =

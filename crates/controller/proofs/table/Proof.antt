@@ -1,7 +1,7 @@
 -- The answer goes by what reading the sheet answered.
 use mathlib.Core.Path.{sym, _∙_}
 use denote.Ref.{now}
-use Rattle.controller.proofs.Sheets.{sheet-refused, sheet-accepted, read-sown}
+use Rattle.controller.proofs.Sheets.{sheet-refused, sheet-accepted, read-accepted-season}
 use Rattle.decades.specs.declared.Tabled.the-variants.{Refused}
 use Rattle.decades.specs.Table.{tabled}
 use borrow.Author.Needs.{needs}
@@ -21,7 +21,7 @@ table-requires : tie.Need-table-requires
 table-requires c κs =
     let at-enum-told = c .before in
     let at-read = at-enum-told .before .before .before in
-    read-sown _ (at-read .read .result) (at-read .read .ensures) (at-enum-told .enum-told .given .1) .valid
+    read-accepted-season _ (at-read .read .result) (at-read .read .ensures) (at-enum-told .enum-told .given .1) .valid
 
 returns : tie.Need-returns
 returns c =

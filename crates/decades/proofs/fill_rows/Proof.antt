@@ -3,7 +3,7 @@ use mathlib.Core.Path.{_≡_, refl, _∙_}
 use mathlib.Core.Logic.{⊎-elim}
 use Prim.Native.Nat.{_+_, _-_, _<_}
 use native.Mathlib.Omega.{arith}
-use Rattle.season.specs.Day.{dayOf}
+use Rattle.season.specs.Carried.{dayOf}
 use Rattle.season.proofs.Days.{number-is, on-day}
 use Rattle.decades.proofs.Rows.{Filling, first-day, next-on, need-small, more-at-most, rows-many, filling-start, filling-length, filling-rain, filling-room, filling-same, filling-along, filling-new, filling-end}
 use Rattle.decades.proofs.fill_rows.Statement.{statement}

@@ -7,8 +7,8 @@ use borrow.Author.Needs.{needs}
 use Rattle.decades.proofs.put_row.Statement.{statement}
 use Rattle.decades.proofs.put_row.Tie as tie
 
-less-requires : tie.Need-less-requires
-less-requires c κs = search needs
+saturating-sub-requires : tie.Need-saturating-sub-requires
+saturating-sub-requires c κs = search needs
 
 gross-of-requires : tie.Need-gross-of-requires
 gross-of-requires c κs = search needs
@@ -72,13 +72,13 @@ same-length c = search needs
 
 returns : tie.Need-returns
 unfolding six
-returns c = simp (towards-suc, c .points .ensures, c .before .gross-of .ensures, c .before .before .less .ensures)
+returns c = simp (towards-suc, c .points .ensures, c .before .gross-of .ensures, c .before .before .saturating-sub .ensures)
 
 pub put-row-spec : {M : Type 1} → statement M
 put-row-spec =
     tie.close
     (tie.spec
-    less-requires
+    saturating-sub-requires
     gross-of-requires
     points-requires
     mul-out

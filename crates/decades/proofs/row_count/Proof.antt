@@ -1,7 +1,7 @@
 -- The decades of the year from the first day's to the last day's.
 use mathlib.Core.Path.{_≡_, _∙_, ap}
 use native.Mathlib.Omega.{arith}
-use Rattle.season.specs.Day.{dayOf}
+use Rattle.season.specs.Carried.{dayOf}
 use Rattle.season.specs.Sheet.{seasonDays}
 use Rattle.decades.proofs.Count.{small-dates, small-decades, decades-in-order, count-over, count-within}
 use borrow.Author.Needs.{needs}

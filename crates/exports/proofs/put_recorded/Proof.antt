@@ -3,7 +3,7 @@ use mathlib.Core.Path.{ap}
 use mathlib.Core.List.{_∷_}
 use denote.Ref.{now}
 use Rattle.verdict.specs.declared.Verdict.{Verdict}
-use Rattle.exports.specs.Written.{verdictThen}
+use Rattle.verdict.specs.Refusals.{numbersThen}
 use Rattle.exports.proofs.Over.{put-refusal, put-answer}
 use Rattle.exports.proofs.Bounds.{verdict-small}
 use borrow.Author.Needs.{needs}
@@ -34,14 +34,14 @@ returns c =
     let at-told = at-two .before .before in
     let start = at-told .before .before .before .before in
     let w = start .args .r .stores in
-    put-answer (now (start .args .out)) (at-two .put-two .ensures) (w .start ∷ w .count ∷ w .bytes) (c .put-stores .ensures) (ap (λ (v : Verdict). verdictThen v (w .start ∷ w .count ∷ w .bytes)) (at-told .enum-told .given .1))
+    put-answer (now (start .args .out)) (at-two .put-two .ensures) (w .start ∷ w .count ∷ w .bytes) (c .put-stores .ensures) (ap (λ (v : Verdict). numbersThen v (w .start ∷ w .count ∷ w .bytes)) (at-told .enum-told .given .1))
 
 returns-2 : tie.Need-returns-2
 returns-2 c =
     let at-verdict = c .before .before .before in
     let start = at-verdict .before .before .before .before in
     let w = start .args .r .stores in
-    put-refusal (now (start .args .out)) (c .put-two2 .ensures) (ap (λ (v : Verdict). verdictThen v (w .start ∷ w .count ∷ w .bytes)) (at-verdict .verdict .given .1))
+    put-refusal (now (start .args .out)) (c .put-two2 .ensures) (ap (λ (v : Verdict). numbersThen v (w .start ∷ w .count ∷ w .bytes)) (at-verdict .verdict .given .1))
 
 pub put-recorded-spec : {M : Type 1} → statement M
 put-recorded-spec =

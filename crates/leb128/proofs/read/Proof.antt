@@ -55,16 +55,16 @@ returns-6 c =
     let n = k .before in
     sym (at-end (at-more (one (n .before)) (second n) (ends-more _ (c .before .before .if4 .left) (c .before .if5 .left)) (omega (arith, k .shared-slice-known3 .given 1)) (omega arith)) (omega arith))
 
-shared-slice-read-three : tie.Need-shared-slice-read-three
-shared-slice-read-three c = search needs
+shared-slice-read-read-three : tie.Need-shared-slice-read-read-three
+shared-slice-read-read-three c = search needs
 
-three-requires : tie.Need-three-requires
-three-requires c κs = search needs
+read-three-requires : tie.Need-read-three-requires
+read-three-requires c κs = search needs
 
 returns-7 : tie.Need-returns-7
 returns-7 c =
     let n = c .before .before in
-    c .three .ensures ∙ decode-three _ (omega (arith, second (n .before .before .before .before), n .if6 .left))
+    c .read-three .ensures ∙ decode-three _ (omega (arith, second (n .before .before .before .before), n .if6 .left))
 
 pub read-spec : {M : Type 1} → statement M
 read-spec =
@@ -80,6 +80,6 @@ read-spec =
     returns-4
     returns-5
     returns-6
-    shared-slice-read-three
-    three-requires
+    shared-slice-read-read-three
+    read-three-requires
     returns-7)

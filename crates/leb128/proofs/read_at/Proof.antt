@@ -10,28 +10,28 @@ use borrow.Author.Needs.{needs}
 use Rattle.leb128.proofs.read_at.Statement.{statement}
 use Rattle.leb128.proofs.read_at.Tie as tie
 
-shared-slice-read-three : tie.Need-shared-slice-read-three
-shared-slice-read-three c = search needs
+shared-slice-read-read-three : tie.Need-shared-slice-read-read-three
+shared-slice-read-read-three c = search needs
 
-add-three : tie.Need-add-three
-add-three c = search needs
+add-read-three : tie.Need-add-read-three
+add-read-three c = search needs
 
-shared-slice-read-three-2 : tie.Need-shared-slice-read-three-2
-shared-slice-read-three-2 c = search needs
+shared-slice-read-read-three-2 : tie.Need-shared-slice-read-read-three-2
+shared-slice-read-read-three-2 c = search needs
 
-add-three-2 : tie.Need-add-three-2
-add-three-2 c = search needs
+add-read-three-2 : tie.Need-add-read-three-2
+add-read-three-2 c = search needs
 
-shared-slice-read-three-3 : tie.Need-shared-slice-read-three-3
-shared-slice-read-three-3 c = search needs
+shared-slice-read-read-three-3 : tie.Need-shared-slice-read-read-three-3
+shared-slice-read-read-three-3 c = search needs
 
-three-requires : tie.Need-three-requires
-three-requires c κs = search needs
+read-three-requires : tie.Need-read-three-requires
+read-three-requires c κs = search needs
 
 returns : tie.Need-returns
 returns c =
     let n = c .before .before .before .before in
-    c .three .ensures ∙ decode-three-at (n .before .before .before .args .at) _ (omega (arith, n .if2 .taken, n .before .if1 .taken))
+    c .read-three .ensures ∙ decode-three-at (n .before .before .before .args .at) _ (omega (arith, n .if2 .taken, n .before .if1 .taken))
 
 returns-2 : tie.Need-returns-2
 returns-2 c =
@@ -59,12 +59,12 @@ pub read-at-spec : {M : Type 1} → statement M
 read-at-spec =
     tie.close
     (tie.spec
-    shared-slice-read-three
-    add-three
-    shared-slice-read-three-2
-    add-three-2
-    shared-slice-read-three-3
-    three-requires
+    shared-slice-read-read-three
+    add-read-three
+    shared-slice-read-read-three-2
+    add-read-three-2
+    shared-slice-read-read-three-3
+    read-three-requires
     returns
     returns-2
     sub-read

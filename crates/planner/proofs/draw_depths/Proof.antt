@@ -2,7 +2,7 @@
 use mathlib.Core.Logic.{inl, inr}
 use Prim.Native.Nat.{suc, _+_, _-_}
 use native.Mathlib.Omega.{arith}
-use Rattle.season.specs.Day.{OnDay}
+use Rattle.season.specs.Carried.{OnDay}
 use Rattle.season.proofs.Days.{number-is, on-day}
 use Rattle.planner.proofs.Carry.{day-few, coming-grows, coming-rain, coming-along, coming-over}
 use Rattle.planner.proofs.Loops.{Drawing, drawing-start, drawing-length, drawing-whole, drawing-next, drawing-fits, drawing-lost, Placed, drawing-place, drawing-passed}
@@ -21,9 +21,9 @@ placed c =
     let at-if2 = c .before in
     let at-if1 = at-if2 .before .before .before in
     let at-pass-day = at-if1 .before .before .before in
-    let at-look-on = at-pass-day .before in
-    let at-loop = at-look-on .before .before in
-    drawing-place (at-loop .loop .inv) (at-look-on .look-on .ensures) (at-pass-day .pass-day .ensures) (at-if1 .if1 .taken) (at-if2 .if2 .left)
+    let at-outlook-on = at-pass-day .before in
+    let at-loop = at-outlook-on .before .before in
+    drawing-place (at-loop .loop .inv) (at-outlook-on .outlook-on .ensures) (at-pass-day .pass-day .ensures) (at-if1 .if1 .taken) (at-if2 .if2 .left)
 
 -- the day is passed
 passed : (c : tie.Joined1 Inv-loop μ-loop) →
@@ -32,9 +32,9 @@ passed : (c : tie.Joined1 Inv-loop μ-loop) →
     Drawing (start .args .s) (start .args .today) (start .args .waiting) (start .args .start) (at-loop .before .before .before .before .season-days .result) (at-loop .loop .t) (at-loop .loop .before) (at-loop .loop .week) (suc (at-loop .loop .t .number)) (c .if1 .track) (c .if1 .depths)
 passed c =
     let at-pass-day = c .before .before .before in
-    let at-look-on = at-pass-day .before in
-    let at-loop = at-look-on .before .before in
-    drawing-passed (at-loop .loop .inv) (at-look-on .look-on .ensures) (at-pass-day .pass-day .ensures)
+    let at-outlook-on = at-pass-day .before in
+    let at-loop = at-outlook-on .before .before in
+    drawing-passed (at-loop .loop .inv) (at-outlook-on .outlook-on .ensures) (at-pass-day .pass-day .ensures)
     (elim (c .if1 .came) [ inl p ↦ inl (p .0 .taken, p .3 .left, p .5, p .6) | inr p ↦ inr (p .0 .left, p .1, p .2) ])
 
 season-days-requires : tie.Need-season-days-requires Inv-loop μ-loop
@@ -71,16 +71,16 @@ rain-to-requires-2 c κs =
     let w = c .loop .inv .coming in
     (w .valid, (w .day, day-few (w .valid) (w .day) .1))
 
-sub-look-on : tie.Need-sub-look-on Inv-loop μ-loop
-sub-look-on c = coming-grows (c .before .loop .inv .coming) (c .rain-to2 .ensures)
+sub-outlook-on : tie.Need-sub-outlook-on Inv-loop μ-loop
+sub-outlook-on c = coming-grows (c .before .loop .inv .coming) (c .rain-to2 .ensures)
 
-look-on-requires : tie.Need-look-on-requires Inv-loop μ-loop
-look-on-requires c κs =
+outlook-on-requires : tie.Need-outlook-on-requires Inv-loop μ-loop
+outlook-on-requires c κs =
     let w = c .before .loop .inv .coming in
     (w .valid, (w .day, (coming-rain w (c .rain-to2 .ensures), w .days)))
 
 pass-day-requires : tie.Need-pass-day-requires Inv-loop μ-loop
-pass-day-requires c κs = drawing-fits (c .before .before .loop .inv) (c .look-on .ensures)
+pass-day-requires c κs = drawing-fits (c .before .before .loop .inv) (c .outlook-on .ensures)
 
 same-length : tie.Need-same-length Inv-loop μ-loop
 same-length c =
@@ -91,9 +91,9 @@ same-length c =
 returns : tie.Need-returns Inv-loop μ-loop
 returns c =
     let at-pass-day = c .before .before .before .before .before .before in
-    let at-look-on = at-pass-day .before in
-    let at-loop = at-look-on .before .before in
-    drawing-lost (at-loop .loop .inv) (at-look-on .look-on .ensures) (at-pass-day .pass-day .ensures) (c .if2 .taken)
+    let at-outlook-on = at-pass-day .before in
+    let at-loop = at-outlook-on .before .before in
+    drawing-lost (at-loop .loop .inv) (at-outlook-on .outlook-on .ensures) (at-pass-day .pass-day .ensures) (c .if2 .taken)
 
 sub-place : tie.Need-sub-place Inv-loop μ-loop
 sub-place c = placed c .0
@@ -177,8 +177,8 @@ draw-depths-spec =
     sub-week
     loop-holds
     rain-to-requires-2
-    sub-look-on
-    look-on-requires
+    sub-outlook-on
+    outlook-on-requires
     pass-day-requires
     same-length
     returns

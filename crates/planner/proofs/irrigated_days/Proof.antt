@@ -5,7 +5,7 @@ use Prim.Native.Nat.{_≤_, _-_}
 use lib.ListN.{length, take}
 use lib.Seq.{take-all}
 use Rattle.planner.specs.Choices.{irrigated}
-use Rattle.planner.proofs.Lists.{irrigated-wet, irrigated-dry}
+use Rattle.planner.proofs.Lists.{irrigated-wet, irrigated-unwatered}
 use Rattle.planner.proofs.irrigated_days.Statement.{statement}
 use Rattle.planner.proofs.irrigated_days.Tie as tie
 
@@ -45,7 +45,7 @@ loop-less-2 c = omega arith
 loop-again-2 : tie.Need-loop-again-2 Inv-loop μ-loop
 loop-again-2 c =
     let xs = c .before .before .before .before .args .depths .now in
-    (omega arith, omega (arith, irrigated-dry xs (c .before .before .before .loop .i) (omega arith) (c .if1 .left)), omega arith)
+    (omega arith, omega (arith, irrigated-unwatered xs (c .before .before .before .loop .i) (omega arith) (c .if1 .left)), omega arith)
 
 returns : tie.Need-returns Inv-loop μ-loop
 returns c =

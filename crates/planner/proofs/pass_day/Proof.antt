@@ -4,8 +4,8 @@ use borrow.Author.Needs.{needs}
 use Rattle.planner.proofs.pass_day.Statement.{statement}
 use Rattle.planner.proofs.pass_day.Tie as tie
 
-less-requires : tie.Need-less-requires
-less-requires c κs = search needs
+saturating-sub-requires : tie.Need-saturating-sub-requires
+saturating-sub-requires c κs = search needs
 
 planned-day-requires : tie.Need-planned-day-requires
 planned-day-requires c κs = search needs
@@ -17,8 +17,8 @@ returns : tie.Need-returns
 unfolding passDay
 returns c = rw (c .before .if1 .taken) cc
 
-less-requires-2 : tie.Need-less-requires-2
-less-requires-2 c κs = search needs
+saturating-sub-requires-2 : tie.Need-saturating-sub-requires-2
+saturating-sub-requires-2 c κs = search needs
 
 planned-day-requires-3 : tie.Need-planned-day-requires-3
 planned-day-requires-3 c κs = search needs
@@ -31,10 +31,10 @@ pub pass-day-spec : {M : Type 1} → statement M
 pass-day-spec =
     tie.close
     (tie.spec
-    less-requires
+    saturating-sub-requires
     planned-day-requires
     planned-day-requires-2
     returns
-    less-requires-2
+    saturating-sub-requires-2
     planned-day-requires-3
     returns-2)

@@ -1,4 +1,4 @@
--- The top by the inverse of its bottom.
+-- The top by the reciprocal of its bottom.
 use mathlib.Core.Path.{_∙_}
 use Rattle.season.proofs.Days.{need-is, need-fits}
 use Rattle.season.proofs.crop_need.Statement.{statement}

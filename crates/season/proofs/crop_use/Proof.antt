@@ -12,11 +12,11 @@ use Rattle.season.proofs.crop_use.Tie as tie
 sub-rest : tie.Need-sub-rest
 sub-rest c = search needs
 
-smaller-requires : tie.Need-smaller-requires
-smaller-requires c κs = search needs
+min-requires : tie.Need-min-requires
+min-requires c κs = search needs
 
 returns : tie.Need-returns
-returns c = simp (le-leb _ _ (c .before .if1 .taken), c .smaller .ensures)
+returns c = simp (le-leb _ _ (c .before .if1 .taken), c .min .ensures)
 
 mul-share : tie.Need-mul-share
 mul-share c =
@@ -40,23 +40,23 @@ returns-2 c =
     let least : min (a .need * rest / (a .total - a .ready)) rest ≡ a .need * rest / (a .total - a .ready) = omega arith in
     simp (lt-leb _ _ (c .before .if1 .left), least)
 
-smaller-requires-2 : tie.Need-smaller-requires-2
-smaller-requires-2 c κs = search needs
+min-requires-2 : tie.Need-min-requires-2
+min-requires-2 c κs = search needs
 
 returns-3 : tie.Need-returns-3
-returns-3 c = simp (lt-leb _ _ (c .before .before .if1 .left), c .smaller2 .ensures)
+returns-3 c = simp (lt-leb _ _ (c .before .before .if1 .left), c .min2 .ensures)
 
 pub crop-use-spec : {M : Type 1} → statement M
 crop-use-spec =
     tie.close
     (tie.spec
     sub-rest
-    smaller-requires
+    min-requires
     returns
     mul-share
     sub-share
     div-share
     sub-if2
     returns-2
-    smaller-requires-2
+    min-requires-2
     returns-3)

@@ -7,7 +7,7 @@ use Rattle.season.specs.Carried.{scaled}
 use Rattle.season.proofs.Laws.{product}
 use Rattle.season.proofs.Bounds.{need-le}
 use Rattle.season.proofs.Days.{need-is, need-fits}
-use Rattle.season.proofs.Along.{Summing, left-few, needs-flat, summed, summed-is, summing-start, summing-top, summing-fits, summing-small, summing-more}
+use Rattle.season.proofs.Along.{Summing, left-few, needs-constant, summed, summed-is, summing-start, summing-top, summing-fits, summing-small, summing-more}
 use Rattle.season.proofs.need_after.Statement.{statement}
 use Rattle.season.proofs.need_after.Tie as tie
 
@@ -25,13 +25,13 @@ quotient-requires c κs =
 mul-result : tie.Need-mul-result Inv-loop μ-loop
 mul-result c =
     let start = c .before .before .before in
-    record { fits = rw (c .quotient .ensures) (omega (arith, product (start .args .days) (scaled (start .args .t .top) (start .args .t .inverse)) 30 3000 (omega (arith, start .pre .1 .1, left-few (start .pre .0) (start .pre .1 .0))) (omega (arith, need-is (start .pre .0) (start .pre .1 .0), need-le (start .args .s) (start .args .t .number) (start .pre .0) (start .pre .1 .0 .of))))) }
+    record { fits = rw (c .quotient .ensures) (omega (arith, product (start .args .days) (scaled (start .args .t .top) (start .args .t .reciprocal)) 30 3000 (omega (arith, start .pre .1 .1, left-few (start .pre .0) (start .pre .1 .0))) (omega (arith, need-is (start .pre .0) (start .pre .1 .0), need-le (start .args .s) (start .args .t .number) (start .pre .0) (start .pre .1 .0 .of))))) }
 
 returns : tie.Need-returns Inv-loop μ-loop
 returns c =
     let at-if1 = c .before in
     let start = at-if1 .before .before in
-    rw (c .quotient .ensures) (needs-flat (start .pre .0) (start .pre .1 .0) (at-if1 .if1 .taken) (start .args .days) (start .pre .1 .1))
+    rw (c .quotient .ensures) (needs-constant (start .pre .0) (start .pre .1 .0) (at-if1 .if1 .taken) (start .args .days) (start .pre .1 .1))
 
 loop-holds : tie.Need-loop-holds Inv-loop μ-loop
 loop-holds c = summing-start (c .before .before .args .t) (c .before .before .args .days)

@@ -1,7 +1,7 @@
 -- In its month and stage a day is carried on by sums; else the day after is made anew.
 use mathlib.Core.Path.{sym, _∙_}
 use Rattle.season.proofs.Calendar.{next-proper}
-use Rattle.season.proofs.Days.{day-proper, length-is, rooting-is, after}
+use Rattle.season.proofs.Days.{day-proper, length-is, growth-per-day-is, after}
 use borrow.Author.Needs.{needs}
 use Rattle.season.proofs.next_day.Statement.{statement}
 use Rattle.season.proofs.next_day.Tie as tie
@@ -21,7 +21,7 @@ date-after-requires c κs = (day-proper (c .before .before .before .pre .0) (c .
 on-date-requires : tie.Need-on-date-requires
 on-date-requires c κs =
     let start = c .before .before .before .before in
-    rw (c .date-after .ensures) (start .pre .0, (next-proper _ (day-proper (start .pre .0) (start .pre .1)), rooting-is (start .pre .0) (start .pre .1)))
+    rw (c .date-after .ensures) (start .pre .0, (next-proper _ (day-proper (start .pre .0) (start .pre .1)), growth-per-day-is (start .pre .0) (start .pre .1)))
 
 returns-2 : tie.Need-returns-2
 returns-2 c =

@@ -2,7 +2,7 @@
 use native.Mathlib.Omega.{arith}
 use Rattle.season.proofs.Calendar.{days-low}
 use Rattle.season.proofs.Slopes.{slope-small}
-use Rattle.season.proofs.Bounds.{effective-le, raining-small, weighed, up-weighed, down-weighed}
+use Rattle.season.proofs.Bounds.{effective-le, rain-per-day-small, weighed, up-weighed, down-weighed}
 use borrow.Author.Needs.{needs}
 use Rattle.season.proofs.on_date.Statement.{statement}
 use Rattle.season.proofs.on_date.Tie as tie
@@ -36,14 +36,14 @@ effective-rain-requires c κs =
 slope-of-requires : tie.Need-slope-of-requires
 slope-of-requires c κs = search needs
 
-sub-smaller : tie.Need-sub-smaller
-sub-smaller c = search needs
+sub-min : tie.Need-sub-min
+sub-min c = search needs
 
-less-requires : tie.Need-less-requires
-less-requires c κs = search needs
+saturating-sub-requires : tie.Need-saturating-sub-requires
+saturating-sub-requires c κs = search needs
 
-smaller-requires : tie.Need-smaller-requires
-smaller-requires c κs = search needs
+min-requires : tie.Need-min-requires
+min-requires c κs = search needs
 
 mul-t20 : tie.Need-mul-t20
 mul-t20 c =
@@ -75,14 +75,14 @@ mul-t24 c =
     let start = at-slope-of .before .before .before .before .before .before in
     record { fits = rw (at-slope-of .slope-of .ensures) (omega (arith, down-weighed (start .args .s) (start .args .number) (start .args .date .month) (start .pre .0 .ranges))) }
 
-mul-inverse-of : tie.Need-mul-inverse-of
-mul-inverse-of c =
+mul-reciprocal-of : tie.Need-mul-reciprocal-of
+mul-reciprocal-of c =
     let at-slope-of = c .before .before .before .before .before .before .before .before in
     let start = at-slope-of .before .before .before .before .before .before in
     record { fits = rw (at-slope-of .slope-of .ensures) (omega (arith, slope-small (start .args .s) (start .args .number) (start .pre .0 .ranges) .few)) }
 
-inverse-of-requires : tie.Need-inverse-of-requires
-inverse-of-requires c κs =
+reciprocal-of-requires : tie.Need-reciprocal-of-requires
+reciprocal-of-requires c κs =
     let at-slope-of = c .before .before .before .before .before .before .before .before in
     let start = at-slope-of .before .before .before .before .before .before in
     rw (at-slope-of .slope-of .ensures) (omega (arith, slope-small (start .args .s) (start .args .number) (start .pre .0 .ranges) .some))
@@ -90,8 +90,8 @@ inverse-of-requires c κs =
 cast-t27 : tie.Need-cast-t27
 cast-t27 c = search needs
 
-inverse-of-requires-2 : tie.Need-inverse-of-requires-2
-inverse-of-requires-2 c κs =
+reciprocal-of-requires-2 : tie.Need-reciprocal-of-requires-2
+reciprocal-of-requires-2 c κs =
     let at-month-days = c .before .before .before .before .before .before .before .before .before .before .before .before .before in
     let start = at-month-days .before .before in
     rw (at-month-days .month-days .ensures) (omega (arith, days-low (start .args .date .month) (start .pre .1 .0 .month-low) (start .pre .1 .0 .month-high)))
@@ -101,18 +101,18 @@ mul-t29 c =
     let at-effective-rain = c .before .before .before .before .before .before .before .before .before .before .before in
     let at-month-days = at-effective-rain .before .before .before in
     let start = at-month-days .before .before in
-    record { fits = rw (at-effective-rain .effective-rain .ensures, c .inverse-of2 .ensures, at-month-days .month-days .ensures) (raining-small _ _ (effective-le _ (start .pre .0 .ranges .rain _)) (days-low (start .args .date .month) (start .pre .1 .0 .month-low) (start .pre .1 .0 .month-high))) }
+    record { fits = rw (at-effective-rain .effective-rain .ensures, c .reciprocal-of2 .ensures, at-month-days .month-days .ensures) (rain-per-day-small _ _ (effective-le _ (start .pre .0 .ranges .rain _)) (days-low (start .args .date .month) (start .pre .1 .0 .month-low) (start .pre .1 .0 .month-high))) }
 
 returns : tie.Need-returns
 returns c =
-    let at-inverse-of = c .before in
-    let at-smaller = at-inverse-of .before .before .before .before .before .before in
-    let at-less = at-smaller .before in
-    let at-slope-of = at-less .before .before in
+    let at-reciprocal-of = c .before in
+    let at-min = at-reciprocal-of .before .before .before .before .before .before in
+    let at-saturating-sub = at-min .before in
+    let at-slope-of = at-saturating-sub .before .before in
     let at-effective-rain = at-slope-of .before in
     let at-month-days = at-effective-rain .before .before .before in
     let start = at-month-days .before .before in
-    rw (c .inverse-of2 .ensures, at-inverse-of .inverse-of .ensures, at-smaller .smaller .ensures, at-less .less .ensures, at-slope-of .slope-of .ensures, at-effective-rain .effective-rain .ensures, at-month-days .month-days .ensures, start .pre .1 .1)
+    rw (c .reciprocal-of2 .ensures, at-reciprocal-of .reciprocal-of .ensures, at-min .min .ensures, at-saturating-sub .saturating-sub .ensures, at-slope-of .slope-of .ensures, at-effective-rain .effective-rain .ensures, at-month-days .month-days .ensures, start .pre .1 .1)
 
 pub on-date-spec : {M : Type 1} → statement M
 on-date-spec =
@@ -127,17 +127,17 @@ on-date-spec =
     array-read-effective-rain
     effective-rain-requires
     slope-of-requires
-    sub-smaller
-    less-requires
-    smaller-requires
+    sub-min
+    saturating-sub-requires
+    min-requires
     mul-t20
     mul-t21
     add-t22
     mul-t23
     mul-t24
-    mul-inverse-of
-    inverse-of-requires
+    mul-reciprocal-of
+    reciprocal-of-requires
     cast-t27
-    inverse-of-requires-2
+    reciprocal-of-requires-2
     mul-t29
     returns)

@@ -9,8 +9,8 @@ use Rattle.season.proofs.root_depth.Tie as tie
 add-growing : tie.Need-add-growing
 add-growing c = search needs
 
-less-requires : tie.Need-less-requires
-less-requires c κs = search needs
+saturating-sub-requires : tie.Need-saturating-sub-requires
+saturating-sub-requires c κs = search needs
 
 add-result : tie.Need-add-result
 add-result c = search needs
@@ -18,14 +18,14 @@ add-result c = search needs
 returns : tie.Need-returns
 returns c =
     let at-if1 = c .before in
-    let at-less = at-if1 .before in
-    let start = at-less .before .before in
-    rw (at-less .less .ensures) (root-grown (start .args .s .sowing) (start .args .s .full) (start .args .s .initial + start .args .s .development) (start .args .day) (omega arith) (at-if1 .if1 .taken))
+    let at-saturating-sub = at-if1 .before in
+    let start = at-saturating-sub .before .before in
+    rw (at-saturating-sub .saturating-sub .ensures) (root-grown (start .args .s .sowing) (start .args .s .full) (start .args .s .initial + start .args .s .development) (start .args .day) (omega arith) (at-if1 .if1 .taken))
 
 mul-result : tie.Need-mul-result
 mul-result c =
-    let at-less = c .before in
-    record { fits = omega (arith, product (at-less .less .result) (at-less .before .before .args .day) 300 400 (omega (arith, at-less .less .ensures)) (omega (arith, c .if1 .left))) }
+    let at-saturating-sub = c .before in
+    record { fits = omega (arith, product (at-saturating-sub .saturating-sub .result) (at-saturating-sub .before .before .args .day) 300 400 (omega (arith, at-saturating-sub .saturating-sub .ensures)) (omega (arith, c .if1 .left))) }
 
 div-result : tie.Need-div-result
 div-result c = search needs
@@ -33,23 +33,23 @@ div-result c = search needs
 add-result-2 : tie.Need-add-result-2
 add-result-2 c =
     let at-if1 = c .before in
-    let at-less = at-if1 .before in
-    let start = at-less .before .before in
-    record { fits = rw (at-less .less .ensures) (omega (arith, part-le (start .args .s .full - start .args .s .sowing) (start .args .day) (start .args .s .initial + start .args .s .development) (omega arith) (omega (arith, at-if1 .if1 .left)))) }
+    let at-saturating-sub = at-if1 .before in
+    let start = at-saturating-sub .before .before in
+    record { fits = rw (at-saturating-sub .saturating-sub .ensures) (omega (arith, part-le (start .args .s .full - start .args .s .sowing) (start .args .day) (start .args .s .initial + start .args .s .development) (omega arith) (omega (arith, at-if1 .if1 .left)))) }
 
 returns-2 : tie.Need-returns-2
 returns-2 c =
     let at-if1 = c .before in
-    let at-less = at-if1 .before in
-    let start = at-less .before .before in
-    rw (at-less .less .ensures) (root-growing (start .args .s .sowing) (start .args .s .full) (start .args .s .initial + start .args .s .development) (start .args .day) (at-if1 .if1 .left))
+    let at-saturating-sub = at-if1 .before in
+    let start = at-saturating-sub .before .before in
+    rw (at-saturating-sub .saturating-sub .ensures) (root-growing (start .args .s .sowing) (start .args .s .full) (start .args .s .initial + start .args .s .development) (start .args .day) (at-if1 .if1 .left))
 
 pub root-depth-spec : {M : Type 1} → statement M
 root-depth-spec =
     tie.close
     (tie.spec
     add-growing
-    less-requires
+    saturating-sub-requires
     add-result
     returns
     mul-result

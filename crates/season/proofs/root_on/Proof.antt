@@ -10,18 +10,18 @@ use Rattle.season.proofs.root_on.Tie as tie
 add-if1 : tie.Need-add-if1
 add-if1 c = search needs
 
-less-requires : tie.Need-less-requires
-less-requires c κs = search needs
+saturating-sub-requires : tie.Need-saturating-sub-requires
+saturating-sub-requires c κs = search needs
 
 add-result : tie.Need-add-result
 add-result c = search needs
 
 returns : tie.Need-returns
 returns c =
-    let at-less = c .before in
-    let at-if1 = at-less .before in
+    let at-saturating-sub = c .before in
+    let at-if1 = at-saturating-sub .before in
     let start = at-if1 .before .before .before in
-    rw (at-less .less .ensures) (root-grown (start .args .s .sowing) (start .args .s .full) (start .args .s .initial + start .args .s .development) (start .args .t .number) (omega (arith, start .pre .0 .ranges .initial .low≤)) (at-if1 .if1 .taken))
+    rw (at-saturating-sub .saturating-sub .ensures) (root-grown (start .args .s .sowing) (start .args .s .full) (start .args .s .initial + start .args .s .development) (start .args .t .number) (omega (arith, start .pre .0 .ranges .initial .low≤)) (at-if1 .if1 .taken))
 
 quotient-requires : tie.Need-quotient-requires
 quotient-requires c κs =
@@ -45,4 +45,4 @@ returns-2 c =
 pub root-on-spec : {M : Type 1} → statement M
 root-on-spec =
     tie.close
-    (tie.spec add-if1 less-requires add-result returns quotient-requires add-result-2 returns-2)
+    (tie.spec add-if1 saturating-sub-requires add-result returns quotient-requires add-result-2 returns-2)

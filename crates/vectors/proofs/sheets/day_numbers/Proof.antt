@@ -1,5 +1,5 @@
 -- An accepted sheet's season is within its ranges.
-use Rattle.controller.proofs.Sheets.{read-sown}
+use Rattle.controller.proofs.Sheets.{read-accepted-season}
 use borrow.Author.Needs.{needs}
 use Rattle.vectors.proofs.sheets.day_numbers.Statement.{statement}
 use Rattle.vectors.proofs.sheets.day_numbers.Tie as tie
@@ -14,7 +14,7 @@ season-day-requires : tie.Need-season-day-requires
 season-day-requires c κs =
     let at-enum-told = c in
     let at-read = at-enum-told .before .before .before in
-    read-sown _ (at-read .read .result) (at-read .read .ensures) (at-enum-told .enum-told .given .1)
+    read-accepted-season _ (at-read .read .result) (at-read .read .ensures) (at-enum-told .enum-told .given .1)
 
 enum-told-2 : tie.Need-enum-told-2
 enum-told-2 c = search needs

@@ -2,11 +2,11 @@
 use mathlib.Core.Path.{ap, _∙_}
 use denote.Ref.{now}
 use Rattle.journal.specs.declared.Recorded.{Recorded}
-use Rattle.exports.specs.Written.{over, recordedWords}
+use Rattle.exports.specs.Written.{writtenOver, recordedOut}
 use Rattle.exports.proofs.Bounds.{recorded-small}
 use borrow.Author.Needs.{needs}
-use Rattle.exports.proofs.controller_rain.Statement.{statement}
-use Rattle.exports.proofs.controller_rain.Tie as tie
+use Rattle.exports.proofs.balladsky_rain.Statement.{statement}
+use Rattle.exports.proofs.balladsky_rain.Tie as tie
 
 rain-requires : tie.Need-rain-requires
 rain-requires c κs = search needs
@@ -19,7 +19,7 @@ returns : tie.Need-returns
 returns c =
     let at-rain = c .before in
     let start = at-rain .before .before .before .before in
-    c .put-recorded .ensures ∙ ap (λ (r : Recorded). over (recordedWords r) (now (start .args .out))) (at-rain .rain .ensures)
+    c .put-recorded .ensures ∙ ap (λ (r : Recorded). writtenOver (recordedOut r) (now (start .args .out))) (at-rain .rain .ensures)
 
-pub controller-rain-spec : {M : Type 1} → statement M
-controller-rain-spec = tie.close (tie.spec rain-requires put-recorded-requires returns)
+pub balladsky-rain-spec : {M : Type 1} → statement M
+balladsky-rain-spec = tie.close (tie.spec rain-requires put-recorded-requires returns)

@@ -1,4 +1,4 @@
--- `leb128::three` meets its contract: the groups so far are joined below the next (proofs/Joins.antt).
+-- `leb128::read_three` meets its contract: the groups so far are joined below the next (proofs/Joins.antt).
 use Prim.Native.Nat.{ℕ, _+_, _*_, _%_}
 use mathlib.Core.Path.{sym, ap, _∙_}
 use borrow.Author.Needs.{needs}
@@ -7,8 +7,8 @@ use mathlib.Core.List.{[], _∷_}
 use native.Mathlib.Omega.{arith}
 use Rattle.leb128.proofs.Laws.{decode-one}
 use Rattle.leb128.proofs.Joins.{SoFar, weight, first-more, at-zero, at-third, at-more, ends-more, ends-two, ends-three}
-use Rattle.leb128.proofs.three.Statement.{statement}
-use Rattle.leb128.proofs.three.Tie as tie
+use Rattle.leb128.proofs.read_three.Statement.{statement}
+use Rattle.leb128.proofs.read_three.Tie as tie
 
 returns : tie.Need-returns
 returns c =
@@ -47,7 +47,7 @@ returns-4 c =
 returns-5 : tie.Need-returns-5
 returns-5 c = sym (at-third (two (c .before)) (omega arith) (c .if4 .left))
 
-pub three-spec : {M : Type 1} → statement M
-three-spec =
+pub read-three-spec : {M : Type 1} → statement M
+read-three-spec =
     tie.close
     (tie.spec returns joined-requires returns-2 returns-3 joined-requires-2 returns-4 returns-5)

@@ -2,11 +2,11 @@
 use mathlib.Core.Path.{ap, _∙_}
 use denote.Ref.{now}
 use Rattle.journal.specs.declared.Mended.{Mended}
-use Rattle.exports.specs.Written.{over, mendedWords}
+use Rattle.exports.specs.Written.{writtenOver, mendedOut}
 use Rattle.exports.proofs.Bounds.{mended-small}
 use borrow.Author.Needs.{needs}
-use Rattle.exports.proofs.controller_mend.Statement.{statement}
-use Rattle.exports.proofs.controller_mend.Tie as tie
+use Rattle.exports.proofs.balladsky_mend.Statement.{statement}
+use Rattle.exports.proofs.balladsky_mend.Tie as tie
 
 mend-requires : tie.Need-mend-requires
 mend-requires c κs = search needs
@@ -19,7 +19,7 @@ returns : tie.Need-returns
 returns c =
     let at-mend = c .before in
     let start = at-mend .before .before .before .before in
-    c .put-mended .ensures ∙ ap (λ (r : Mended). over (mendedWords r) (now (start .args .out))) (at-mend .mend .ensures)
+    c .put-mended .ensures ∙ ap (λ (r : Mended). writtenOver (mendedOut r) (now (start .args .out))) (at-mend .mend .ensures)
 
-pub controller-mend-spec : {M : Type 1} → statement M
-controller-mend-spec = tie.close (tie.spec mend-requires put-mended-requires returns)
+pub balladsky-mend-spec : {M : Type 1} → statement M
+balladsky-mend-spec = tie.close (tie.spec mend-requires put-mended-requires returns)

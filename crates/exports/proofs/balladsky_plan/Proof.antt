@@ -7,8 +7,8 @@ use Rattle.planner.specs.declared.Planned.{Planned}
 use Rattle.exports.proofs.Over.{planned-written}
 use Rattle.exports.proofs.Bounds.{planned-small}
 use borrow.Author.Needs.{needs}
-use Rattle.exports.proofs.controller_plan.Statement.{statement}
-use Rattle.exports.proofs.controller_plan.Tie as tie
+use Rattle.exports.proofs.balladsky_plan.Statement.{statement}
+use Rattle.exports.proofs.balladsky_plan.Tie as tie
 
 plan-requires : tie.Need-plan-requires
 plan-requires c κs = search needs
@@ -27,5 +27,5 @@ returns c =
     let start = at-call .before .before .before .before .before .before in
     planned-written (now (start .args .out)) (at-call .plan .ensures) (c .put-planned .ensures)
 
-pub controller-plan-spec : {M : Type 1} → statement M
-controller-plan-spec = tie.close (tie.spec plan-requires put-planned-requires same-length returns)
+pub balladsky-plan-spec : {M : Type 1} → statement M
+balladsky-plan-spec = tie.close (tie.spec plan-requires put-planned-requires same-length returns)

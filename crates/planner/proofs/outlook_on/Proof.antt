@@ -1,8 +1,8 @@
 -- Each field is what its callee ensures.
 use native.Mathlib.Omega.{arith}
 use borrow.Author.Needs.{needs}
-use Rattle.planner.proofs.look_on.Statement.{statement}
-use Rattle.planner.proofs.look_on.Tie as tie
+use Rattle.planner.proofs.outlook_on.Statement.{statement}
+use Rattle.planner.proofs.outlook_on.Tie as tie
 
 crop-need-requires : tie.Need-crop-need-requires
 crop-need-requires c κs = search needs
@@ -19,7 +19,7 @@ turn-in-requires c κs = omega (arith, c .before .before .before .pre .1 .1 .1)
 returns : tie.Need-returns
 returns c = cc
 
-pub look-on-spec : {M : Type 1} → statement M
-look-on-spec =
+pub outlook-on-spec : {M : Type 1} → statement M
+outlook-on-spec =
     tie.close
     (tie.spec crop-need-requires ready-on-requires water-on-requires turn-in-requires returns)

@@ -2,8 +2,8 @@
 use native.Mathlib.Nat.{div-le-self}
 use native.Mathlib.Omega.{arith}
 use borrow.Author.Needs.{needs}
-use Rattle.season.proofs.inverse_of.Statement.{statement}
-use Rattle.season.proofs.inverse_of.Tie as tie
+use Rattle.season.proofs.reciprocal_of.Statement.{statement}
+use Rattle.season.proofs.reciprocal_of.Tie as tie
 
 div-result : tie.Need-div-result
 div-result c = search needs
@@ -14,5 +14,5 @@ add-result c = record { fits = omega (arith, div-le-self 17592186044416 (c .args
 returns : tie.Need-returns
 returns c = search needs
 
-pub inverse-of-spec : {M : Type 1} → statement M
-inverse-of-spec = tie.close (tie.spec div-result add-result returns)
+pub reciprocal-of-spec : {M : Type 1} → statement M
+reciprocal-of-spec = tie.close (tie.spec div-result add-result returns)

@@ -7,8 +7,8 @@ use Rattle.decades.specs.declared.Tabled.{Tabled}
 use Rattle.exports.proofs.Over.{tabled-written}
 use Rattle.exports.proofs.Bounds.{tabled-small}
 use borrow.Author.Needs.{needs}
-use Rattle.exports.proofs.controller_table.Statement.{statement}
-use Rattle.exports.proofs.controller_table.Tie as tie
+use Rattle.exports.proofs.balladsky_table.Statement.{statement}
+use Rattle.exports.proofs.balladsky_table.Tie as tie
 
 table-requires : tie.Need-table-requires
 table-requires c κs = search needs
@@ -27,5 +27,5 @@ returns c =
     let start = at-call .before .before .before .before .before in
     tabled-written (now (start .args .out)) (at-call .table .ensures) (c .put-tabled .ensures)
 
-pub controller-table-spec : {M : Type 1} → statement M
-controller-table-spec = tie.close (tie.spec table-requires put-tabled-requires same-length returns)
+pub balladsky-table-spec : {M : Type 1} → statement M
+balladsky-table-spec = tie.close (tie.spec table-requires put-tabled-requires same-length returns)
