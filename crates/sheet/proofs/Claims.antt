@@ -2,12 +2,12 @@
 use mathlib.Core.Path.{refl}
 use Rattle.leb128.specs.Groups.{encode, overGroups, overIn}
 use Rattle.leb128.specs.Forms.{decode, decodeFrom, below}
-use Rattle.season.specs.Cases as season
+use Rattle.season.specs.SmallSheet as season
 use Rattle.verdict.specs.Refusals.{orRefused}
 use Rattle.sheet.specs.Numbers.{before, numbers, ended, numbersRead, written}
 use Rattle.sheet.specs.Fields.{outside, lowestOutside}
 use Rattle.sheet.specs.Sheets.{fieldsVerdict, sheetOf}
-use Rattle.sheet.specs.Cases.{cases}
+use Rattle.sheet.specs.Cases.{edges}
 use Rattle.sheet.specs.Claims.{Claims}
 use Rattle.sheet.proofs.Verdicts.{refused-empty}
 use Rattle.sheet.proofs.Accepted.{accepted-season, is-accepted}
@@ -15,17 +15,19 @@ use Rattle.sheet.proofs.Written.{written-accepted}
 use Rattle.sheet.proofs.Lengths.{accepted-length}
 use Rattle.sheet.proofs.Start.{first-bytes-decide}
 use Rattle.sheet.proofs.Numbered.{refused-number}
+use Rattle.sheet.proofs.Refusing.{refuses-first}
 
 pub claims : Claims
-unfolding encode overGroups overIn decode decodeFrom below orRefused before numbers ended numbersRead written outside lowestOutside fieldsVerdict sheetOf cases season.small
+unfolding encode overGroups overIn decode decodeFrom below orRefused before numbers ended numbersRead written outside lowestOutside fieldsVerdict sheetOf edges season.small
 claims = record {
   accepted-season = accepted-season;
   refused-empty = refused-empty;
   refused-number = refused-number;
+  refuses-first = refuses-first;
   written-accepted = written-accepted;
   accepted-as-written = λ b bytes e. is-accepted b e .as-written bytes;
   accepted-length = accepted-length;
   first-bytes-decide = first-bytes-decide;
   small-read = refl;
-  cases-hold = refl;
+  edges-hold = refl;
 }

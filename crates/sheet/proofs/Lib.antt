@@ -7,4 +7,5 @@ pub mod Accepted
 pub mod Lengths
 pub mod Start
 pub mod Numbered
+pub mod Refusing
 pub mod Claims

@@ -1,4 +1,4 @@
--- Document 01, 'Numbers to hold against it': the small sheet, and a case of each of refusals 1 to 7.
+-- Document 01's small sheet, and edges of refusals 1 to 7 that are not in document 01.
 -- Left, what the definitions answer; right, the refusal's number and the number returned with it, or 0 and 0.
 use Prim.Native.Nat.{ℕ}
 use mathlib.Core.List.{List, [], _∷_, _++_}
@@ -21,12 +21,10 @@ answer bytes = numbersOf (sheetOf bytes .verdict)
 abbrev changed : ℕ → ℕ → List ℕ → List ℕ
 changed place value fields = set fields place value
 
-unfoldable pub cases : List (List ℕ × List ℕ)
-cases =
-    -- † 80 00 is refused 2
-    (answer (0x80 ∷ 0x00 ∷ []), 2 ∷ 1 ∷ [])
+unfoldable pub edges : List (List ℕ × List ℕ)
+edges =
     -- the small sheet is accepted
-    ∷ (answer (written small), 0 ∷ 0 ∷ [])
+    (answer (written small), 0 ∷ 0 ∷ [])
     -- 1: the sheet ends too soon, with its length; 2 where that comes first in the bytes
     ∷ (answer [], 1 ∷ 0 ∷ [])
     ∷ (answer (0x01 ∷ 0x80 ∷ []), 1 ∷ 2 ∷ [])

@@ -5,12 +5,14 @@ use Prim.Native.Nat.{ℕ, _≤_}
 use lib.ListN.{length}
 use Rattle.leb128.specs.Claims.{Bytes}
 use Rattle.season.specs.Day.{AcceptedSeason}
-use Rattle.season.specs.Cases as season
+use Rattle.season.specs.SmallSheet as season
 use Rattle.verdict.specs.declared.Verdict.the-variants.{Accepted, Refused}
+use Rattle.verdict.specs.Refusals.{firstOf}
 use Rattle.sheet.specs.Numbers.{numbersRead, written}
 use Rattle.sheet.specs.Fields.{seasonOf}
 use Rattle.sheet.specs.Sheets.{fieldsVerdict, refusal, sheetOf}
-use Rattle.sheet.specs.Cases.{small, cases}
+use Rattle.sheet.specs.Refusals.{sheetLines}
+use Rattle.sheet.specs.Cases.{small, edges}
 
 pub record Claims : Type 0 where
   -- An accepted sheet's season is in its ranges, at most 365 days long, with Z0 at most Zm and an opening depletion of at most T on day 1.
@@ -19,6 +21,8 @@ pub record Claims : Type 0 where
   pub refused-empty : (b : List ℕ) (number value : ℕ) → sheetOf b .verdict ≡ Refused number value → sheetOf b ≡ refusal number value
   -- Its refusal is one of 1 to 7.
   pub refused-number : (b : List ℕ) (number value : ℕ) → sheetOf b .verdict ≡ Refused number value → (1 ≤ number) × (number ≤ 7)
+  -- It is the first of the seven that applies: 1 and 2 as they come first in the bytes, 3, then 4 to 7 of the fields.
+  pub refuses-first : (b : List ℕ) → sheetOf b .verdict ≡ firstOf Accepted (sheetLines b)
   -- Forty numbers that refusals 4 to 7 leave, written one after another, are accepted as those numbers.
   pub written-accepted : (vs : List ℕ) → length vs ≡ 40 → fieldsVerdict vs ≡ Accepted
       → sheetOf (written vs) ≡ record { season = seasonOf vs; verdict = Accepted }
@@ -30,5 +34,5 @@ pub record Claims : Type 0 where
   pub first-bytes-decide : (t y : List ℕ) → 121 ≤ length t → sheetOf (t ++ y) ≡ sheetOf t
   -- The small sheet is the season of that name.
   pub small-read : sheetOf (written small) ≡ record { season = season.small 127; verdict = Accepted }
-  -- The cases.
-  pub cases-hold : map (λ (c : List ℕ × List ℕ). c .0) cases ≡ map (λ (c : List ℕ × List ℕ). c .1) cases
+  -- Edges that are not in document 01.
+  pub edges-hold : map (λ (c : List ℕ × List ℕ). c .0) edges ≡ map (λ (c : List ℕ × List ℕ). c .1) edges

@@ -26,9 +26,12 @@ seasonLines s =
     ∷ (ltb (totalOn s 1) (s .opening), 7, 0)
     ∷ []
 
--- Forty numbers: the first of refusals 4 to 7.
+-- Forty numbers: refusals 4 to 7, and the first of them.
+abbrev pub fieldLines : List ℕ → List (Bool × ℕ × ℕ)
+fieldLines f = (ltb 0 (fieldAtFault f), 4, fieldAtFault f) ∷ seasonLines (seasonOf f)
+
 unfoldable pub fieldsVerdict : List ℕ → Verdict
-fieldsVerdict f = firstOf Accepted ((ltb 0 (fieldAtFault f), 4, fieldAtFault f) ∷ seasonLines (seasonOf f))
+fieldsVerdict f = firstOf Accepted (fieldLines f)
 
 abbrev pub sheetIs : Season → Verdict → Sheet
 sheetIs s v = record { season = s; verdict = v }

@@ -1,12 +1,12 @@
 -- The proofs of `specs/Claims.antt`, in its order.
-use Prim.Native.Nat.{ℕ}
+use Prim.Native.Nat.{ℕ, zero, suc}
 use mathlib.Core.Path.{_≡_, refl, ap₂, _∙_}
 use mathlib.Core.Bool.{Bool, true}
 use mathlib.Core.List.{List, [], _∷_, _++_}
 use native.Mathlib.Omega.{arith}
 use Rattle.verdict.specs.declared.Verdict.{Verdict}
 use Rattle.verdict.specs.declared.Verdict.the-variants.{Accepted, Refused}
-use Rattle.verdict.specs.Refusals.{firstOf, numbersOf}
+use Rattle.verdict.specs.Refusals.{firstOf, numbersThen, numbersOf, verdictOf}
 use Rattle.verdict.specs.Claims.{NoneHolds, Numbered, Claims}
 use Rattle.verdict.proofs.First.{first-holds, first-fails, accepted-fails}
 
@@ -32,9 +32,15 @@ one-to-one Accepted (Refused n v) p q e = let z : 0 ≡ n = cc in absurd (omega 
 one-to-one (Refused n v) Accepted p q e = let z : n ≡ 0 = cc in absurd (omega arith)
 one-to-one (Refused n v) (Refused m w) p q e = let a : n ≡ m = cc in let b : v ≡ w = cc in ap₂ Refused a b
 
+pub verdict-of-numbers : (v : Verdict) (ns : List ℕ) → Numbered v → verdictOf (numbersThen v ns) ≡ v
+verdict-of-numbers Accepted ns p = refl
+verdict-of-numbers (Refused zero value) ns p = absurd (omega arith)
+verdict-of-numbers (Refused (suc n) value) ns p = refl
+
 pub claims : Claims
 claims = record {
   first-that-holds = first-that-holds;
   accepted-iff = λ lines. (accepted-none lines, none-accepted lines);
   numbers-one-to-one = one-to-one;
+  verdict-of-numbers = verdict-of-numbers;
 }

@@ -2,8 +2,9 @@
 use mathlib.Core.Path.{_≡_, refl, sym, _∙_}
 use Prim.Native.Nat.{ℕ}
 use mathlib.Core.Bool.{Bool, true, false}
-use mathlib.Core.List.{List, [], _∷_}
+use mathlib.Core.List.{List, [], _∷_, _++_}
 use native.Mathlib.Omega.{arith}
+use Rattle.verdict.specs.declared.Verdict.{Verdict}
 use Rattle.verdict.specs.declared.Verdict.the-variants.{Accepted, Refused}
 use Rattle.verdict.specs.Refusals.{orRefused, firstOf}
 
@@ -12,6 +13,11 @@ pub first-refused : (n v : ℕ) (rs : List (Bool × ℕ × ℕ)) → firstOf (Re
 unfolding orRefused
 first-refused n v [] = refl
 first-refused n v (r ∷ rs) = first-refused n v rs
+
+-- Lines behind lines go on from the verdict of the first.
+pub first-append : (v : Verdict) (qs rs : List (Bool × ℕ × ℕ)) → firstOf v (qs ++ rs) ≡ firstOf (firstOf v qs) rs
+first-append v [] rs = refl
+first-append v (q ∷ qs) rs = first-append (orRefused v (q .0) (q .1) (q .2)) qs rs
 
 -- A line whose test holds is the answer; one whose test fails leaves it to the next.
 pub first-holds : (t : Bool) (n v : ℕ) (rs : List (Bool × ℕ × ℕ)) → t ≡ true → firstOf Accepted ((t, n, v) ∷ rs) ≡ Refused n v

@@ -5,7 +5,7 @@ use mathlib.Core.Bool.{Bool, true, false}
 use mathlib.Core.List.{List, [], _∷_, _++_}
 use Rattle.verdict.specs.declared.Verdict.{Verdict}
 use Rattle.verdict.specs.declared.Verdict.the-variants.{Accepted, Refused}
-use Rattle.verdict.specs.Refusals.{firstOf, numbersOf}
+use Rattle.verdict.specs.Refusals.{firstOf, numbersThen, numbersOf, verdictOf}
 
 -- No line's test holds.
 abbrev pub NoneHolds : List (Bool × ℕ × ℕ) → Type 0
@@ -24,5 +24,7 @@ pub record Claims : Type 0 where
   -- A call is accepted exactly when no test holds.
   pub accepted-iff : (lines : List (Bool × ℕ × ℕ))
       → (firstOf Accepted lines ≡ Accepted → NoneHolds lines) × (NoneHolds lines → firstOf Accepted lines ≡ Accepted)
-  -- The numbers of an answer tell which answer it is.
+  -- The numbers of an answer tell which answer it is,
   pub numbers-one-to-one : (v w : Verdict) → Numbered v → Numbered w → numbersOf v ≡ numbersOf w → v ≡ w
+  -- and whatever numbers follow, its verdict is read off them.
+  pub verdict-of-numbers : (v : Verdict) (ns : List ℕ) → Numbered v → verdictOf (numbersThen v ns) ≡ v

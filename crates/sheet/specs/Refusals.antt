@@ -1,0 +1,53 @@
+-- Document 01, 'Why the controller says no': refusals 1 to 7 of a sheet's bytes, read downward. A line is a test, the number, the number returned
+-- with it.
+use Prim.Native.Nat.{ℕ, zero, suc, _+_}
+use mathlib.Core.Bool.{Bool, true, false, _&&_}
+use mathlib.Core.List.{List, [], _∷_, _++_}
+use lib.Dec.{ltb, eqb}
+use lib.ListN.{length}
+use Rattle.sheet.specs.Numbers.{numbersRead}
+use Rattle.sheet.specs.Sheets.{fieldLines}
+
+-- What comes first in the bytes: a byte that no number has at its place in it; the sheet's end; or the end of the last number wanted, that is, the
+-- place after it.
+pub data First : Type 0 where
+  offends : ℕ → First
+  ends : First
+  whole : ℕ → First
+
+-- `count` numbers are wanted; the next byte stands at place `at`, and `before` bytes of its number stand before it. A byte below 80 is its number's
+-- last, and must not be 00 after others; any other must not be its third.
+unfoldable pub comesFirst : ℕ → ℕ → ℕ → List ℕ → First
+comesFirst zero at before s = whole at
+comesFirst (suc count) at before [] = ends
+comesFirst (suc count) at before (b ∷ s) =
+    elim (ltb b 0x80) [
+      | true ↦ elim (eqb b 0x00 && ltb 0 before) [ true ↦ offends at | false ↦ comesFirst count (at + 1) 0 s ]
+      | false ↦ elim (ltb before 2) [ true ↦ comesFirst (suc count) (at + 1) (before + 1) s | false ↦ offends at ]
+    ]
+
+-- 1: the sheet ends before its fortieth number is whole; with its length.
+abbrev pub endsLine : ℕ → First → Bool × ℕ × ℕ
+endsLine size (offends place) = (false, 1, 0)
+endsLine size ends = (true, 1, size)
+endsLine size (whole at) = (false, 1, 0)
+
+-- 2: a third byte of 80 or more, or a last byte 00 after others; with its place.
+abbrev pub offenceLine : First → Bool × ℕ × ℕ
+offenceLine (offends place) = (true, 2, place)
+offenceLine ends = (false, 2, 0)
+offenceLine (whole at) = (false, 2, 0)
+
+-- 3: bytes follow the fortieth number; with the first one's place.
+abbrev pub extraLine : ℕ → First → Bool × ℕ × ℕ
+extraLine size (offends place) = (false, 3, 0)
+extraLine size ends = (false, 3, 0)
+extraLine size (whole at) = (ltb at size, 3, at)
+
+-- 1 and 2 are whichever comes first in the bytes, so at most one of them applies.
+abbrev pub byteLines : ℕ → First → List (Bool × ℕ × ℕ)
+byteLines size first = endsLine size first ∷ offenceLine first ∷ extraLine size first ∷ []
+
+-- All seven; 4 to 7 are of the forty numbers.
+abbrev pub sheetLines : List ℕ → List (Bool × ℕ × ℕ)
+sheetLines b = byteLines (length b) (comesFirst 40 0 0 b) ++ fieldLines (numbersRead b .fields)
