@@ -1,13 +1,16 @@
 -- Document 01, 'Numbers to hold against it': every case marked †, in its order. Left, what the calls and their definitions answer; right, the document's numbers.
-use Prim.Native.Nat.{ℕ, _*_}
+use Prim.Native.Nat.{ℕ}
 use mathlib.Core.List.{List, [], _∷_, _++_}
 use lib.ListN.{replicate, set}
 use Rattle.verdict.specs.Refusals as verdict
 use Rattle.leb128.specs.Groups.{encode}
-use Rattle.season.specs.Rules.{ramp, nearest, effectiveRain, plannedRain}
+use Rattle.season.specs.declared.Season.{Season}
+use Rattle.season.specs.Rules.{effectiveRain, plannedRain}
+use Rattle.season.specs.Day.{cropNeed}
 use Rattle.season.specs.Closing.{cropUse}
 use Rattle.season.specs.Depths.{netIs, grossOf}
 use Rattle.sheet.specs.Numbers.{written}
+use Rattle.sheet.specs.Fields.{seasonOf}
 use Rattle.sheet.specs.Sheets.{sheetOf}
 use Rattle.sheet.specs.Cases.{small}
 use Rattle.journal.specs.Opening as journal
@@ -19,6 +22,11 @@ use Rattle.controller.specs.Calls.{sheetOpened, sheetMended, sheetPlanne
 -- The small sheet's bytes with these turns, which are its fortieth field.
 abbrev smallSheet : ℕ → List ℕ
 smallSheet turns = written (set small 39 turns)
+
+-- A season with ETo 450, stages of 10, 30, 10 and 30 days, and these Kc ini, mid and end: day 10 of its development is day 20, day 1 of its late stage day 51.
+abbrev thirtyDays : ℕ → ℕ → ℕ → Season
+thirtyDays ini mid end =
+    seasonOf (1 ∷ 1 ∷ 10 ∷ 30 ∷ 10 ∷ 30 ∷ ini ∷ mid ∷ end ∷ (replicate 12 450 ++ replicate 12 0 ++ (100 ∷ 20 ∷ 20 ∷ 50 ∷ 75 ∷ 0 ∷ 127 ∷ [])))
 
 -- A plan's numbers, and then the lent buffer: the small sheet on a blank journal of eight bytes, and five sevens lent for its four days.
 abbrev shown : Planned × List ℕ → List ℕ
@@ -36,7 +44,7 @@ cases =
     ∷ (encode 120000, 0xC0 ∷ 0xA9 ∷ 0x07 ∷ [])
     ∷ (verdict.numbersOf (sheetOf (0x80 ∷ 0x00 ∷ []) .verdict), 2 ∷ 1 ∷ [])
     -- ETo 450, Kc 30 to 115, L 30, k 10: 262.5, so 263. Kc 120 to 35, k 1: 527.
-    ∷ (nearest (450 * ramp 30 115 30 10) (100 * 30) ∷ nearest (450 * ramp 120 35 30 1) (100 * 30) ∷ [], 263 ∷ 527 ∷ [])
+    ∷ (cropNeed (thirtyDays 30 115 35) 20 ∷ cropNeed (thirtyDays 30 120 35) 51 ∷ [], 263 ∷ 527 ∷ [])
     -- q 10,000 gives 8,400; 25,000 and 25,001 give 15,000; 60,000 gives 18,500.
     ∷ (effectiveRain 10000 ∷ effectiveRain 25000 ∷ effectiveRain 25001 ∷ effectiveRain 60000 ∷ [], 8400 ∷ 15000 ∷ 15000 ∷ 18500 ∷ [])
     -- Effective rain 100 in 31 days: day 1 is 3, day 31 is 4.

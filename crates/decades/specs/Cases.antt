@@ -1,9 +1,8 @@
--- Document 01: the rows that the program prints of the small sheet, and a season that comes back to the decade in which it began.
--- Left, what the definitions answer; right, the document's numbers.
+-- Edges of the lent buffer that are not in document 01, on the small sheet's two rows. Left, what the definitions answer; right, what the rules give.
 use mathlib.Core.List.{List, [], _∷_, _++_}
 use Prim.Native.Nat.{ℕ}
 use lib.ListN.{replicate}
-use Rattle.season.specs.Cases.{small}
+use Rattle.season.specs.SmallSheet.{small}
 use Rattle.decades.specs.Table.{numbersOf, tabled}
 use Rattle.decades.specs.declared.Tabled.{Tabled}
 
@@ -11,9 +10,9 @@ use Rattle.decades.specs.declared.Tabled.{Tabled}
 abbrev shown : Tabled × List ℕ → List ℕ
 shown a = numbersOf (a .0) ++ a .1
 
-unfoldable pub cases : List (List ℕ × List ℕ)
-cases =
-    -- 1 1 700 0 700 934 and 1 2 800 0 800 1067, in a buffer of one number more
+unfoldable pub edges : List (List ℕ × List ℕ)
+edges =
+    -- a number beyond the rows stays
     (shown (tabled (small 127) (replicate 13 7)), 0 ∷ 0 ∷ 2 ∷ 1 ∷ 1 ∷ 700 ∷ 0 ∷ 700 ∷ 934 ∷ 1 ∷ 2 ∷ 800 ∷ 0 ∷ 800 ∷ 1067 ∷ 7 ∷ [])
     -- 12 numbers are enough, 11 are refused
     ∷ (shown (tabled (small 127) (replicate 12 7)), 0 ∷ 0 ∷ 2 ∷ 1 ∷ 1 ∷ 700 ∷ 0 ∷ 700 ∷ 934 ∷ 1 ∷ 2 ∷ 800 ∷ 0 ∷ 800 ∷ 1067 ∷ [])

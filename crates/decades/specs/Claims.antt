@@ -7,7 +7,7 @@ use Rattle.season.specs.Sheet.{Valid}
 use Rattle.decades.specs.declared.Tabled.{Tabled}
 use Rattle.decades.specs.declared.Tabled.the-variants.{Refused}
 use Rattle.decades.specs.Table.{rowCount, tabled, numbersOf}
-use Rattle.decades.specs.Cases.{cases}
+use Rattle.decades.specs.Cases.{edges}
 
 pub record Claims : Type 0 where
   -- A table has at most 37 rows.
@@ -16,5 +16,5 @@ pub record Claims : Type 0 where
   pub refused-unaltered : (s : Season) (out : List ℕ) (number value : ℕ) → tabled s out .0 ≡ Refused number value → tabled s out .1 ≡ out
   -- Different answers have different numbers.
   pub numbers-one-to-one : (a b : Tabled) → numbersOf a ≡ numbersOf b → a ≡ b
-  -- The cases.
-  pub cases-hold : map (λ (c : List ℕ × List ℕ). c .0) cases ≡ map (λ (c : List ℕ × List ℕ). c .1) cases
+  -- Edges that are not in document 01.
+  pub edges-hold : map (λ (c : List ℕ × List ℕ). c .0) edges ≡ map (λ (c : List ℕ × List ℕ). c .1) edges

@@ -7,7 +7,7 @@ use lib.Count.{leadingZeros}
 use Rattle.leb128.specs.declared.Number.the-variants.{Whole, Short}
 use Rattle.leb128.specs.Groups.{groupCount, encode}
 use Rattle.leb128.specs.Forms.{decode}
-use Rattle.leb128.specs.Cases.{cases}
+use Rattle.leb128.specs.Cases.{edges}
 
 -- Each number of a list is a byte; 0 stands past its end.
 abbrev pub Bytes : List ℕ → Type 0
@@ -33,5 +33,5 @@ pub record Claims : Type 0 where
   pub accepted-below : (b : List ℕ) (v k : ℕ) → Bytes b → decode b ≡ Whole v k → v < 2 ^ 21
   -- The first bytes of a number, not all, are no whole number.
   pub prefix-short : (n k : ℕ) → n < 2 ^ 21 → k < groupCount n → decode (take k (encode n)) ≡ Short
-  -- The cases.
-  pub cases-hold : map (λ (c : List ℕ × List ℕ). c .0) cases ≡ map (λ (c : List ℕ × List ℕ). c .1) cases
+  -- Edges that are not in document 01.
+  pub edges-hold : map (λ (c : List ℕ × List ℕ). c .0) edges ≡ map (λ (c : List ℕ × List ℕ). c .1) edges

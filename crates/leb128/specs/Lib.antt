@@ -1,4 +1,4 @@
--- Document 01, 'The season sheet', first paragraph: numbers in groups of seven bits; then the cases marked †, and what is proved.
+-- Document 01, 'The season sheet', first paragraph: numbers in groups of seven bits; then edges, and what is proved.
 pub mod Groups
 pub mod Forms
 pub mod Cases

@@ -1,8 +1,7 @@
--- Document 01, 'The plan', as definitions that the contracts cite; then the cases marked †, and what is proved.
+-- Document 01, 'The plan', as definitions that the contracts cite; then what is proved.
 pub mod Choices
 pub mod Plan
 pub mod Outlook
 pub mod Carried
 pub mod Answer
-pub mod Cases
 pub mod Claims

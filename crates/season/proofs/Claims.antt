@@ -1,5 +1,4 @@
 -- The proofs of `specs/Claims.antt`, in its order.
-use mathlib.Core.Path.{refl}
 use mathlib.Core.List.{_∷_}
 use Prim.Native.Nat.{ℕ, _+_, _-_, _*_, _≤_, _<_}
 use native.Mathlib.Nat.{div-mul-le-self, lt-mul-div-succ, mul-comm, mul-le-mul-left}
@@ -8,10 +7,10 @@ use lib.ListN.{replicate}
 use Rattle.season.specs.declared.Season.{Season}
 use Rattle.season.specs.declared.Net.{Net}
 use Rattle.season.specs.Sheet.{Valid}
-use Rattle.season.specs.Rules.{rampZ, ramp, nearest}
+use Rattle.season.specs.Rules.{nearest}
 use Rattle.season.specs.Day.{totalOn, readyOn}
 use Rattle.season.specs.Depths.{grossOf}
-use Rattle.season.specs.Cases.{small, cases}
+use Rattle.season.specs.SmallSheet.{small}
 use Rattle.season.specs.Claims.{Claims}
 use Rattle.season.proofs.Each.{all-le}
 use Rattle.season.proofs.Laws.{quotient-up}
@@ -63,7 +62,6 @@ small-valid turns h = record {
 }
 
 pub claims : Claims
-unfolding cases ramp rampZ
 claims = record {
   kc-never-negative = ramp-pos;
   rounded-nearest = rounded;
@@ -77,5 +75,4 @@ claims = record {
   depletion-at-most-total = stays-within;
   gross-is-ceiling = ceiling;
   small-valid = small-valid;
-  cases-hold = refl;
 }

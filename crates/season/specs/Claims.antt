@@ -1,6 +1,5 @@
 -- What is proved of this crate's definitions. `claims`, in proofs/Claims.antt, has a proof of each field.
 use mathlib.Core.Path.{_≡_}
-use mathlib.Core.List.{List, map}
 use Prim.Native.Nat.{ℕ, _+_, _*_, _≤_, _<_}
 use lib.IntN.{pos}
 use Rattle.season.specs.declared.Season.{Season}
@@ -10,7 +9,7 @@ use Rattle.season.specs.Rules.{rampZ, ramp, nearest}
 use Rattle.season.specs.Day.{cropNeed, rainOn, totalOn, readyOn}
 use Rattle.season.specs.Closing.{closeDay}
 use Rattle.season.specs.Depths.{grossOf}
-use Rattle.season.specs.Cases.{small, cases}
+use Rattle.season.specs.SmallSheet.{small}
 
 pub record Claims : Type 0 where
   -- The difference of coefficients may be negative, Kp × L + k × (Kn − Kp) never is.
@@ -33,5 +32,3 @@ pub record Claims : Type 0 where
   pub gross-is-ceiling : (e : ℕ) (net : Net) → 1 ≤ e → (net .0 * 100 ≤ grossOf e net .0 * e) × (grossOf e net .0 * e < net .0 * 100 + e)
   -- The ranges are met: by the small sheet, whatever its turns.
   pub small-valid : (turns : ℕ) → turns ≤ 127 → Valid (small turns)
-  -- The cases marked †.
-  pub cases-hold : map (λ (c : List ℕ × List ℕ). c .0) cases ≡ map (λ (c : List ℕ × List ℕ). c .1) cases

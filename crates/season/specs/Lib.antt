@@ -1,4 +1,4 @@
--- What document 01 says of a season, as definitions that the contracts cite; then the cases marked †, and what is proved.
+-- What document 01 says of a season, as definitions that the contracts cite; then the small sheet, and what is proved.
 pub mod Calendar
 pub mod Sheet
 pub mod Rules
@@ -6,5 +6,5 @@ pub mod Day
 pub mod Closing
 pub mod Depths
 pub mod Carried
-pub mod Cases
+pub mod SmallSheet
 pub mod Claims
