@@ -1,5 +1,5 @@
 -- The proofs of `specs/Claims.antt`, in its order.
-use mathlib.Core.Path.{_≡_, refl, subst⁻¹}
+use mathlib.Core.Path.{_≡_, refl, sym, _∙_, subst⁻¹}
 use mathlib.Core.List.{List, map}
 use Prim.Native.Nat.{ℕ}
 use native.Mathlib.Omega.{arith}
@@ -8,7 +8,7 @@ use Rattle.season.specs.Rules.{ramp, rampZ}
 use Rattle.season.specs.Calendar.{nextDay, daysOn}
 use Rattle.season.specs.Day.{dateOf, kcOf, cropNeed, rainOn}
 use Rattle.verdict.specs.declared.Verdict.the-variants as verdict
-use Rattle.verdict.specs.Refusals.{orRefused}
+use Rattle.verdict.specs.Refusals.{orRefused, verdictOf}
 use Rattle.leb128.specs.Groups.{encode, overGroups, overIn, groupCount}
 use Rattle.leb128.specs.Forms.{decode, decodeFrom, below}
 use Rattle.sheet.specs.Numbers.{before, numbers, ended, numbersRead, written}
@@ -22,6 +22,7 @@ use Rattle.journal.specs.declared.Recorded.{Recorded}
 use Rattle.journal.specs.declared.Mended.{Mended}
 use Rattle.journal.specs.Entries.{tagOf, sourceTag, numberOf, start, enter, refusal, accepts, passes}
 use Rattle.journal.specs.Entries as journal
+use Rattle.journal.specs.Opening as opened
 use Rattle.journal.specs.Opening.{value, least, starts, entryOf, only, entryAt, replay, replayed, isBlank, trim, tornAt, behind, opening}
 use Rattle.journal.specs.Calls.{noStores, recordedWith, recorded, wipePlaces, notMended, mendedOn, mended, wipesIn, mendedNumbers}
 use Rattle.journal.specs.Specified.{Opens}
@@ -35,14 +36,14 @@ use Rattle.planner.specs.Answer.{sum, answerTo, answer}
 use Rattle.decades.specs.declared.Tabled.{Tabled}
 use Rattle.decades.specs.declared.Tabled.the-variants as table
 use Rattle.decades.specs.Table.{tabled}
-use Rattle.decades.proofs.Claims as decades
+use Rattle.planner.proofs.Claims as plans
 use Rattle.controller.specs.Calls.{plannedOn, sheetOpened, sheetRecorded, sheetMended, sheetPlanned, sheetTabled, onSheet}
-use Rattle.controller.specs.Refusals.{openVerdict, planVerdict, tableVerdict, openLines, entryLines, planLines, tableLines}
+use Rattle.controller.specs.Refusals.{mendLines, openLines, entryLines, planLines, tableLines}
 use Rattle.controller.specs.Cases.{cases}
 use Rattle.controller.specs.Claims.{Claims}
 use Rattle.controller.proofs.Sheets.{on-sheet}
-use Rattle.controller.proofs.Demands.{opens, demand-3}
-use Rattle.controller.proofs.Refusing.{sheet-verdict, open-verdict, entry-verdict, mend-verdict, plan-verdict, table-verdict, entry-refused, mend-refused, plan-refused-keeps}
+use Rattle.controller.proofs.Demands.{opens, plan-right, demand-3}
+use Rattle.controller.proofs.Refusing.{sheet-verdict, numbers-refused, planVerdict, tableVerdict, open-verdict, entry-verdict, mend-verdict, plan-verdict, table-verdict, entry-refused, mend-refused, plan-refused-keeps, table-refused-keeps}
 
 -- The calls' two ways: a refused sheet, and an accepted season.
 module _ (sheet : List ℕ) where
@@ -85,17 +86,17 @@ module _ (sheet : List ℕ) where
         (λ number value v. (record { size = refl; few = omega arith; rest = refl }, (sheets.claims .refused-number sheet number value v .0, refl)))
         (λ s v q o. journals.claims .mended-occurs s o area)
 
-    plan-unaltered : (out : List ℕ) (number value : ℕ) → sheetPlanned sheet area out .0 ≡ planned.Refused number value → sheetPlanned sheet area out .1 ≡ out
+    plan-unaltered : (out : List ℕ) (number value : ℕ) → planVerdict (sheetPlanned sheet area out) ≡ verdict.Refused number value → sheetPlanned sheet area out .1 ≡ out
     plan-unaltered out number value =
-        on-sheet (λ m w. (planned.Refused m w, out)) (λ s. plannedOn s out (opening s area)) sheet (λ (a : Planned × List ℕ). a .0 ≡ planned.Refused number value → a .1 ≡ out)
+        on-sheet (λ m w. (planned.Refused m w, out)) (λ s. plannedOn s out (opening s area)) sheet (λ (a : Planned × List ℕ). planVerdict a ≡ verdict.Refused number value → a .1 ≡ out)
         (λ m w v h. refl)
         (λ s v q o h. plan-refused-keeps s area out number value h)
 
-  table-unaltered : (out : List ℕ) (number value : ℕ) → sheetTabled sheet out .0 ≡ table.Refused number value → sheetTabled sheet out .1 ≡ out
+  table-unaltered : (out : List ℕ) (number value : ℕ) → tableVerdict (sheetTabled sheet out) ≡ verdict.Refused number value → sheetTabled sheet out .1 ≡ out
   table-unaltered out number value =
-      on-sheet (λ m w. (table.Refused m w, out)) (λ s. tabled s out) sheet (λ (a : Tabled × List ℕ). a .0 ≡ table.Refused number value → a .1 ≡ out)
+      on-sheet (λ m w. (table.Refused m w, out)) (λ s. tabled s out) sheet (λ (a : Tabled × List ℕ). tableVerdict a ≡ verdict.Refused number value → a .1 ≡ out)
       (λ m w v h. refl)
-      (λ s v q o h. decades.claims .refused-unaltered s out number value h)
+      (λ s v q o h. table-refused-keeps s out number value h)
 
 cases-hold : map (λ (c : List ℕ × List ℕ). c .0) cases ≡ map (λ (c : List ℕ × List ℕ). c .1) cases
 unfolding cases onSheet plannedOn sheetOf fieldsVerdict lowestOutside outside numbersRead ended numbers before written decode decodeFrom below encode overGroups overIn groupCount orRefused opening replayed replay behind isBlank trim tornAt entryAt entryOf only value least starts start enter refusal accepts passes tagOf sourceTag numberOf journal.outside mended mendedOn wipePlaces mendedNumbers wipesIn answer answerTo byWalks onWalk pad walk ending watered irrigated sum dateOf kcOf cropNeed rainOn nextDay daysOn ramp rampZ
@@ -105,19 +106,22 @@ pub claims : Claims
 unfolding recordedWith
 claims = record {
   demand-3 = demand-3;
-  open-refuses = λ sheet area. sheet-verdict openVerdict found.Refused (λ s. opening s area) sheet (openLines area) (λ number value. refl) (λ s o. open-verdict s area);
+  open-refuses = λ sheet area.
+      sheet-verdict (λ (o : Opening). verdictOf (opened.numbersOf o)) found.Refused (λ s. opening s area) sheet (openLines area) numbers-refused (λ s o. open-verdict s area);
   entry-refuses = λ sheet area e.
-      sheet-verdict (λ (r : Recorded). r .verdict) (λ number value. recordedWith (verdict.Refused number value) noStores) (λ s. recorded s area e) sheet (entryLines area e) (λ number value. refl) (λ s o. entry-verdict s area e);
+      sheet-verdict (λ (r : Recorded). r .verdict) (λ number value. recordedWith (verdict.Refused number value) noStores) (λ s. recorded s area e) sheet (entryLines area e) (λ number value h. refl) (λ s o. entry-verdict s area e);
   mend-refuses = λ sheet area.
-      sheet-verdict (λ (r : Mended). r .verdict) notMended (λ s. mended s area) sheet (openLines area) (λ number value. refl) (λ s o. mend-verdict s area);
+      sheet-verdict (λ (r : Mended). r .verdict) notMended (λ s. mended s area) sheet (mendLines area) (λ number value h. refl) (λ s o. mend-verdict s area);
   plan-refuses = λ sheet area out.
-      sheet-verdict (λ (a : Planned × List ℕ). planVerdict (a .0)) (λ number value. (planned.Refused number value, out)) (λ s. plannedOn s out (opening s area)) sheet (planLines area (length out)) (λ number value. refl) (λ s o. plan-verdict s area out);
+      sheet-verdict planVerdict (λ number value. (planned.Refused number value, out)) (λ s. plannedOn s out (opening s area)) sheet (planLines area (length out)) numbers-refused (λ s o. plan-verdict s area out);
   table-refuses = λ sheet out.
-      sheet-verdict (λ (a : Tabled × List ℕ). tableVerdict (a .0)) (λ number value. (table.Refused number value, out)) (λ s. tabled s out) sheet (tableLines (length out)) (λ number value. refl) (λ s o. table-verdict s out);
+      sheet-verdict tableVerdict (λ number value. (table.Refused number value, out)) (λ s. tabled s out) sheet (tableLines (length out)) numbers-refused (λ s o. table-verdict s out);
   entry-no-stores = entry-no-stores;
   mend-no-stores = mend-no-stores;
   plan-unaltered = plan-unaltered;
   table-unaltered = table-unaltered;
+  plan-right = λ sheet area out l v o day room. plan-right sheet v area out l (sym (opens sheet v area) ∙ o) day room;
+  planning = plans.claims;
   sheet-as-written = sheets.claims .accepted-as-written;
   written-as-sheet = sheets.claims .written-accepted;
   entries = journals.claims;

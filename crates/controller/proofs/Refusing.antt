@@ -1,8 +1,9 @@
 -- Demand 1: each call's verdict is the first of its lines that applies.
-use mathlib.Core.Path.{_≡_, refl, sym, _∙_}
+use mathlib.Core.Path.{_≡_, refl, sym, _∙_, ap}
 use mathlib.Core.Bool.{Bool, true, false, cond}
 use mathlib.Core.List.{List, [], _∷_, _++_}
 use Prim.Native.Nat.{ℕ, _*_, _≤_, _<_}
+use native.Mathlib.Omega.{arith}
 use lib.Dec.{ltb, leb}
 use lib.ListN.{length, drop}
 use borrow.Author.Tests.{lt-ltb, le-ltb, leb-true, leb-false}
@@ -11,15 +12,19 @@ use Rattle.season.specs.Sheet.{seasonDays}
 use Rattle.season.specs.Day.{AcceptedSeason}
 use Rattle.verdict.specs.declared.Verdict.{Verdict}
 use Rattle.verdict.specs.declared.Verdict.the-variants.{Accepted, Refused}
-use Rattle.verdict.specs.Refusals.{orRefused, firstOf}
-use Rattle.verdict.proofs.First.{first-refused, refused-accepted}
+use Rattle.verdict.specs.Refusals.{orRefused, firstOf, verdictOf}
+use Rattle.verdict.proofs.First.{first-append, first-refused, refused-accepted}
+use Rattle.verdict.proofs.Claims as verdicts
 use Rattle.sheet.specs.Sheets.{sheetOf}
+use Rattle.sheet.specs.Refusals.{sheetLines}
+use Rattle.sheet.proofs.Claims as sheets
 use Rattle.journal.specs.declared.Entry.{Entry}
 use Rattle.journal.specs.declared.Ledger.{Ledger}
 use Rattle.journal.specs.declared.Opening.{Opening}
 use Rattle.journal.specs.declared.Opening.the-variants as found
 use Rattle.journal.specs.declared.Stores.{Stores}
 use Rattle.journal.specs.Entries.{waiting, refusals, refusal}
+use Rattle.journal.specs.Opening as opened
 use Rattle.journal.specs.Opening.{replayed, tornAt, trim, isBlank, behind, opening}
 use Rattle.journal.specs.Calls.{noStores, recordedWith, storesOf, recordedOn, recorded, notMended, mendedOn, mended}
 use Rattle.planner.specs.declared.Planned.{Planned}
@@ -27,29 +32,40 @@ use Rattle.planner.specs.declared.Planned.the-variants as planned
 use Rattle.planner.specs.Plan.{Plan, depths, refused}
 use Rattle.planner.specs.Outlook.{daysLeft}
 use Rattle.planner.specs.Answer.{answerTo, answer}
+use Rattle.planner.specs.Answer as answers
 use Rattle.planner.proofs.Claims as plans
 use Rattle.decades.specs.Table.{rowCount, tabled}
 use Rattle.decades.specs.declared.Tabled.{Tabled}
 use Rattle.decades.specs.declared.Tabled.the-variants as table
 use Rattle.decades.specs.Table as definition
+use Rattle.decades.proofs.Claims as tables
 use Rattle.controller.specs.Calls.{onSheet, plannedOn}
-use Rattle.controller.specs.Refusals.{Line, openVerdict, planVerdict, tableVerdict, sheetLines, areaLines, tornLine, ledgerIn, openLines, entryLines, lost, planOf, roomLines, planLines, tableLines}
+use Rattle.controller.specs.Refusals.{Line, onLines, damaged, torn, ledgerIn, mendLines, openLines, entryLines, lost, planOf, roomLines, planLines, tableLines}
 use Rattle.controller.proofs.Sheets.{on-sheet}
 
--- Refusals 1 to 7 come first, for every call.
-pub sheet-verdict : {A : Type 0} (verdictOf : A → Verdict) (refuse : ℕ → ℕ → A) (reply : Season → A) (sheet : List ℕ) (lines : Season → List Line)
-    → ((number value : ℕ) → verdictOf (refuse number value) ≡ Refused number value)
-    → ((s : Season) → AcceptedSeason s → verdictOf (reply s) ≡ firstOf Accepted (lines s))
-    → verdictOf (onSheet refuse reply sheet) ≡ firstOf Accepted (sheetLines sheet lines)
-unfolding orRefused
-sheet-verdict verdictOf refuse reply sheet lines no-sheet of-season =
-    on-sheet refuse reply sheet (λ a. verdictOf a ≡ firstOf Accepted (sheetLines sheet lines))
-    (λ number value e. no-sheet number value ∙ sym (rw e (first-refused number value (lines (sheetOf sheet .season)))))
-    (λ s e q o. of-season s o ∙ rw (e, q))
+-- Refusals 1 to 7 come first, for every call; the call's own go on from the sheet's verdict.
+on-lines : (sheet : List ℕ) (lines : Season → List Line) → firstOf Accepted (onLines sheet lines) ≡ firstOf (sheetOf sheet .verdict) (lines (sheetOf sheet .season))
+on-lines sheet lines =
+    first-append Accepted (sheetLines sheet) (lines (sheetOf sheet .season))
+    ∙ ap (λ (v : Verdict). firstOf v (lines (sheetOf sheet .season))) (sym (sheets.claims .refuses-first sheet))
+
+pub sheet-verdict : {A : Type 0} (verdictIn : A → Verdict) (refuse : ℕ → ℕ → A) (reply : Season → A) (sheet : List ℕ) (lines : Season → List Line)
+    → ((number value : ℕ) → 1 ≤ number → verdictIn (refuse number value) ≡ Refused number value)
+    → ((s : Season) → AcceptedSeason s → verdictIn (reply s) ≡ firstOf Accepted (lines s))
+    → verdictIn (onSheet refuse reply sheet) ≡ firstOf Accepted (onLines sheet lines)
+sheet-verdict verdictIn refuse reply sheet lines no-sheet of-season =
+    on-sheet refuse reply sheet (λ a. verdictIn a ≡ firstOf Accepted (onLines sheet lines))
+    (λ number value e. no-sheet number value (sheets.claims .refused-number sheet number value e .0)
+    ∙ sym (on-lines sheet lines ∙ rw e (first-refused number value (lines (sheetOf sheet .season)))))
+    (λ s e q o. of-season s o ∙ sym (on-lines sheet lines ∙ rw (e, q)))
+
+-- A refusal's number and value are the verdict of an answer that begins with them.
+pub numbers-refused : (number value : ℕ) → 1 ≤ number → verdictOf (number ∷ value ∷ []) ≡ Refused number value
+numbers-refused number value h = verdicts.claims .verdict-of-numbers (Refused number value) [] h
 
 -- ---- what an opening can be
 
-opening-by : (s : Season) (area : List ℕ) (P : Opening → Type 0) → (8192 < length area → P (found.Refused 8 0))
+pub opening-by : (s : Season) (area : List ℕ) (P : Opening → Type 0) → (8192 < length area → P (found.Refused 8 0))
     → (length area ≤ 8192 → (l : Ledger) → P (found.Clean l)) → (length area ≤ 8192 → (l : Ledger) → P (found.Torn l (l .place)))
     → (length area ≤ 8192 → (place : ℕ) → P (found.Refused 9 place)) → P (opening s area)
 unfolding opening behind
@@ -75,25 +91,40 @@ opening-by s area P long clean torn damaged = size (leb (length area) 8192) refl
     size true e = tail (isBlank rest) (leb-true (length area) 8192 e)
     size false e = long (leb-false (length area) 8192 e)
 
+-- ---- the verdict of a plan's and of a table's answer, by their numbers
+
+abbrev pub planVerdict : Planned × List ℕ → Verdict
+planVerdict a = verdictOf (answers.numbersOf (a .0))
+
+abbrev pub tableVerdict : Tabled × List ℕ → Verdict
+tableVerdict a = verdictOf (definition.numbersOf (a .0))
+
 -- ---- 8 to 14
+
+abbrev areaLines : ℕ → Opening → List Line
+areaLines size o = (ltb 8192 size, 8, 0) ∷ (damaged o .0, 9, damaged o .1) ∷ []
+
+abbrev tornLine : Opening → Line
+tornLine o = (torn o .0, 10, torn o .1)
 
 module _ (s : Season) (area : List ℕ) where
   -- A call whose verdict is 8, 9, then what `lines` give of the opening.
-  by-opening : (verdictOf : Opening → Verdict) (lines : Opening → List Line)
-      → ((number place : ℕ) → verdictOf (found.Refused number place) ≡ Refused number place)
-      → ((l : Ledger) → verdictOf (found.Clean l) ≡ firstOf Accepted (lines (found.Clean l)))
-      → ((l : Ledger) → verdictOf (found.Torn l (l .place)) ≡ firstOf Accepted (lines (found.Torn l (l .place))))
-      → verdictOf (opening s area) ≡ firstOf Accepted (areaLines (length area) (opening s area) ++ lines (opening s area))
+  by-opening : (verdictIn : Opening → Verdict) (lines : Opening → List Line)
+      → ((number place : ℕ) → 1 ≤ number → verdictIn (found.Refused number place) ≡ Refused number place)
+      → ((l : Ledger) → verdictIn (found.Clean l) ≡ firstOf Accepted (lines (found.Clean l)))
+      → ((l : Ledger) → verdictIn (found.Torn l (l .place)) ≡ firstOf Accepted (lines (found.Torn l (l .place))))
+      → verdictIn (opening s area) ≡ firstOf Accepted (areaLines (length area) (opening s area) ++ lines (opening s area))
   unfolding orRefused
-  by-opening verdictOf lines refuses clean torn =
-      opening-by s area (λ o. verdictOf o ≡ firstOf Accepted (areaLines (length area) o ++ lines o))
-      (λ h. refuses 8 0 ∙ sym (rw (lt-ltb 8192 (length area) h) (first-refused 8 0 (lines (found.Refused 8 0)))))
+  by-opening verdictIn lines refuses clean torn =
+      opening-by s area (λ o. verdictIn o ≡ firstOf Accepted (areaLines (length area) o ++ lines o))
+      (λ h. refuses 8 0 (omega arith) ∙ sym (rw (lt-ltb 8192 (length area) h) (first-refused 8 0 (lines (found.Refused 8 0)))))
       (λ h l. clean l ∙ sym (rw (le-ltb 8192 (length area) h)))
       (λ h l. torn l ∙ sym (rw (le-ltb 8192 (length area) h)))
-      (λ h place. refuses 9 place ∙ sym (rw (le-ltb 8192 (length area) h) (first-refused 9 place (lines (found.Refused 9 place)))))
+      (λ h place. refuses 9 place (omega arith) ∙ sym (rw (le-ltb 8192 (length area) h) (first-refused 9 place (lines (found.Refused 9 place)))))
 
-  pub open-verdict : openVerdict (opening s area) ≡ firstOf Accepted (openLines area s)
-  open-verdict = by-opening openVerdict (λ o. []) (λ number place. refl) (λ l. refl) (λ l. refl)
+  pub open-verdict : verdictOf (opened.numbersOf (opening s area)) ≡ firstOf Accepted (openLines area s)
+  unfolding orRefused
+  open-verdict = by-opening (λ o. verdictOf (opened.numbersOf o)) (λ o. tornLine o ∷ []) numbers-refused (λ l. refl) (λ l. refl)
 
   recorded-with-verdict : (v : Verdict) (w : Stores) → recordedWith v w .verdict ≡ v
   unfolding recordedWith
@@ -104,57 +135,57 @@ module _ (s : Season) (area : List ℕ) where
   unfolding recorded recordedOn refusal orRefused
   entry-verdict e =
       by-opening (λ o. recordedOn (seasonDays s) (length area) e o .verdict) (λ o. tornLine o ∷ refusals (seasonDays s) (length area) (ledgerIn s o) e)
-      (λ number place. recorded-with-verdict (Refused number place) noStores)
+      (λ number place h. recorded-with-verdict (Refused number place) noStores)
       (λ l. recorded-with-verdict (refusal (seasonDays s) (length area) l e) (storesOf l e))
       (λ l. recorded-with-verdict (Refused 10 (l .place)) noStores ∙ sym (first-refused 10 (l .place) (refusals (seasonDays s) (length area) l e)))
 
-  pub mend-verdict : mended s area .verdict ≡ firstOf Accepted (openLines area s)
+  pub mend-verdict : mended s area .verdict ≡ firstOf Accepted (mendLines area s)
   unfolding mended mendedOn
-  mend-verdict = by-opening (λ o. mendedOn area o .verdict) (λ o. []) (λ number place. refl) (λ l. refl) (λ l. refl)
+  mend-verdict = by-opening (λ o. mendedOn area o .verdict) (λ o. []) (λ number place h. refl) (λ l. refl) (λ l. refl)
 
   -- ---- 11, 15 and 16
 
   module _ (out : List ℕ) where
-    plan-16 : (e : ℕ) (p : Plan) → planVerdict (answerTo e out p .0) ≡ firstOf Accepted ((lost p .0, 16, lost p .1) ∷ [])
+    plan-16 : (e : ℕ) (p : Plan) → planVerdict (answerTo e out p) ≡ firstOf Accepted ((lost p .0, 16, lost p .1) ∷ [])
     unfolding answerTo orRefused
     plan-16 e (depths xs) = refl
     plan-16 e (refused f) = refl
 
-    plan-15 : (l : Ledger) → planVerdict (answer s (l .day) (l .depletion) (waiting l) out .0)
+    plan-15 : (l : Ledger) → planVerdict (answer s (l .day) (l .depletion) (waiting l) out)
         ≡ firstOf Accepted ((ltb (length out) (daysLeft s (l .day)), 15, 0) ∷ (lost (planOf s l) .0, 16, lost (planOf s l) .1) ∷ [])
     unfolding answer orRefused
     plan-15 l = go (ltb (length out) (daysLeft s (l .day)))
       where
-        go : (b : Bool) → planVerdict (elim b as (λ x. Planned × List ℕ) [ true ↦ (planned.Refused 15 0, out) | false ↦ answerTo (s .efficiency) out (planOf s l) ] .0)
+        go : (b : Bool) → planVerdict (elim b as (λ x. Planned × List ℕ) [ true ↦ (planned.Refused 15 0, out) | false ↦ answerTo (s .efficiency) out (planOf s l) ])
             ≡ firstOf Accepted ((b, 15, 0) ∷ (lost (planOf s l) .0, 16, lost (planOf s l) .1) ∷ [])
         go true = sym (first-refused 15 0 ((lost (planOf s l) .0, 16, lost (planOf s l) .1) ∷ []))
         go false = plan-16 (s .efficiency) (planOf s l)
 
-    plan-11 : (l : Ledger) → planVerdict (plannedOn s out (found.Clean l) .0) ≡ firstOf Accepted (roomLines s (length out) l)
+    plan-11 : (l : Ledger) → planVerdict (plannedOn s out (found.Clean l)) ≡ firstOf Accepted (roomLines s (length out) l)
     unfolding plannedOn orRefused
     plan-11 l = go (ltb (seasonDays s) (l .day))
       where
         later : List Line
         later = (ltb (length out) (daysLeft s (l .day)), 15, 0) ∷ (lost (planOf s l) .0, 16, lost (planOf s l) .1) ∷ []
 
-        go : (b : Bool) → planVerdict (cond {A = Planned × List ℕ} b (planned.Refused 11 0, out) (answer s (l .day) (l .depletion) (waiting l) out) .0)
+        go : (b : Bool) → planVerdict (cond {A = Planned × List ℕ} b (planned.Refused 11 0, out) (answer s (l .day) (l .depletion) (waiting l) out))
             ≡ firstOf Accepted ((b, 11, 0) ∷ later)
         go true = sym (first-refused 11 0 later)
         go false = plan-15 l
 
-    pub plan-verdict : planVerdict (plannedOn s out (opening s area) .0) ≡ firstOf Accepted (planLines area (length out) s)
+    pub plan-verdict : planVerdict (plannedOn s out (opening s area)) ≡ firstOf Accepted (planLines area (length out) s)
     unfolding plannedOn orRefused
     plan-verdict =
-        by-opening (λ o. planVerdict (plannedOn s out o .0)) (λ o. tornLine o ∷ roomLines s (length out) (ledgerIn s o))
-        (λ number place. refl)
+        by-opening (λ o. planVerdict (plannedOn s out o)) (λ o. tornLine o ∷ roomLines s (length out) (ledgerIn s o))
+        numbers-refused
         (λ l. plan-11 l)
         (λ l. sym (first-refused 10 (l .place) (roomLines s (length out) l)))
 
-pub table-verdict : (s : Season) (out : List ℕ) → tableVerdict (tabled s out .0) ≡ firstOf Accepted (tableLines (length out) s)
+pub table-verdict : (s : Season) (out : List ℕ) → tableVerdict (tabled s out) ≡ firstOf Accepted (tableLines (length out) s)
 unfolding tabled orRefused
 table-verdict s out = go (ltb (length out) (rowCount s * 6))
   where
-    go : (b : Bool) → tableVerdict (cond {A = Tabled × List ℕ} b (table.Refused 15 0, out) (table.Rows (rowCount s), definition.table s ++ drop (rowCount s * 6) out) .0)
+    go : (b : Bool) → tableVerdict (cond {A = Tabled × List ℕ} b (table.Refused 15 0, out) (table.Rows (rowCount s), definition.table s ++ drop (rowCount s * 6) out))
         ≡ firstOf Accepted ((b, 15, 0) ∷ [])
     go true = refl
     go false = refl
@@ -189,18 +220,30 @@ mend-refused s area number value = go (opening s area)
     go (found.Torn l place) h = absurd (refused-accepted number value (sym h))
     go (found.Refused m place) h = let i : m ≡ number = cc in let j : place ≡ value = cc in rw (i, j)
 
-pub plan-refused-keeps : (s : Season) (area out : List ℕ) (number value : ℕ) → plannedOn s out (opening s area) .0 ≡ planned.Refused number value
+pub plan-refused-keeps : (s : Season) (area out : List ℕ) (number value : ℕ) → planVerdict (plannedOn s out (opening s area)) ≡ Refused number value
     → plannedOn s out (opening s area) .1 ≡ out
 unfolding plannedOn
 plan-refused-keeps s area out number value = go (opening s area)
   where
-    open-day : (l : Ledger) (b : Bool) → cond {A = Planned × List ℕ} b (planned.Refused 11 0, out) (answer s (l .day) (l .depletion) (waiting l) out) .0 ≡ planned.Refused number value
+    keeps : (l : Ledger) (a : Planned) → answer s (l .day) (l .depletion) (waiting l) out .0 ≡ a → verdictOf (answers.numbersOf a) ≡ Refused number value
+        → answer s (l .day) (l .depletion) (waiting l) out .1 ≡ out
+    keeps l (planned.Made days net gross) q h = absurd (refused-accepted number value (sym h))
+    keeps l (planned.Refused m w) q h =
+        plans.claims .answer-refused-keeps s (l .day) (l .depletion) (waiting l) m w out _ (λ i. (q i, answer s (l .day) (l .depletion) (waiting l) out .1))
+
+    open-day : (l : Ledger) (b : Bool) → planVerdict (cond {A = Planned × List ℕ} b (planned.Refused 11 0, out) (answer s (l .day) (l .depletion) (waiting l) out)) ≡ Refused number value
         → cond {A = Planned × List ℕ} b (planned.Refused 11 0, out) (answer s (l .day) (l .depletion) (waiting l) out) .1 ≡ out
     open-day l true h = refl
-    open-day l false h =
-        plans.claims .answer-refused-keeps s (l .day) (l .depletion) (waiting l) number value out _ (λ i. (h i, answer s (l .day) (l .depletion) (waiting l) out .1))
+    open-day l false h = keeps l (answer s (l .day) (l .depletion) (waiting l) out .0) refl h
 
-    go : (o : Opening) → plannedOn s out o .0 ≡ planned.Refused number value → plannedOn s out o .1 ≡ out
+    go : (o : Opening) → planVerdict (plannedOn s out o) ≡ Refused number value → plannedOn s out o .1 ≡ out
     go (found.Clean l) h = open-day l (ltb (seasonDays s) (l .day)) h
     go (found.Torn l place) h = refl
     go (found.Refused m place) h = refl
+
+pub table-refused-keeps : (s : Season) (out : List ℕ) (number value : ℕ) → tableVerdict (tabled s out) ≡ Refused number value → tabled s out .1 ≡ out
+table-refused-keeps s out number value = go (tabled s out .0) refl
+  where
+    go : (a : Tabled) → tabled s out .0 ≡ a → verdictOf (definition.numbersOf a) ≡ Refused number value → tabled s out .1 ≡ out
+    go (table.Rows count) q h = absurd (refused-accepted number value (sym h))
+    go (table.Refused m w) q h = tables.claims .refused-unaltered s out m w q

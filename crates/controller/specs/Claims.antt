@@ -4,22 +4,28 @@ use mathlib.Core.List.{List, map}
 use Prim.Native.Nat.{ℕ, _≤_}
 use lib.ListN.{length}
 use Rattle.verdict.specs.declared.Verdict.the-variants.{Accepted, Refused}
-use Rattle.verdict.specs.Refusals.{firstOf}
+use Rattle.verdict.specs.Refusals.{firstOf, verdictOf}
+use Rattle.season.specs.Sheet.{seasonDays}
 use Rattle.leb128.specs.Claims.{Bytes}
 use Rattle.sheet.specs.Numbers.{numbersRead, written}
 use Rattle.sheet.specs.Fields.{seasonOf}
 use Rattle.sheet.specs.Sheets.{fieldsVerdict, sheetOf}
 use Rattle.journal.specs.declared.Entry.{Entry}
+use Rattle.journal.specs.declared.Ledger.{Ledger}
+use Rattle.journal.specs.declared.Opening.the-variants.{Clean}
+use Rattle.journal.specs.Opening as opened
 use Rattle.journal.specs.Specified.{Opens}
 use Rattle.journal.specs.Calls.{noStores, recordedWith, notMended}
 use Rattle.journal.specs.Book.{Step}
 use Rattle.journal.specs.Claims as journal
 use Rattle.journal.specs.Claims.{OpeningOccurs, RecordedOccurs, MendedOccurs}
-use Rattle.planner.specs.declared.Planned.the-variants as planned
-use Rattle.decades.specs.declared.Tabled.the-variants as table
+use Rattle.planner.specs.Outlook.{daysLeft}
+use Rattle.planner.specs.Answer as planned
+use Rattle.planner.specs.Claims as planner
+use Rattle.decades.specs.Table as tabled
 use Rattle.controller.specs.Calls.{sheetOpened, sheetRecorded, sheetMended, sheetPlanned, sheetTabled}
-use Rattle.controller.specs.Refusals.{openVerdict, planVerdict, tableVerdict, sheetLines, openLines, entryLines, planLines, tableLines}
-use Rattle.controller.specs.Demands.{Demand3}
+use Rattle.controller.specs.Refusals.{onLines, mendLines, openLines, entryLines, planLines, tableLines}
+use Rattle.controller.specs.Demands.{PlanKept, Demand3}
 use Rattle.controller.specs.Cases.{cases}
 
 pub record Claims : Type 0 where
@@ -27,19 +33,27 @@ pub record Claims : Type 0 where
   pub demand-3 : (sheet : List ℕ) → sheetOf sheet .verdict ≡ Accepted → (size : ℕ) → size ≤ 8192 → (steps : List Step) (out : List ℕ)
       → Demand3 sheet size steps out
   -- Demand 1: each call gives the first refusal that applies,
-  pub open-refuses : (sheet area : List ℕ) → openVerdict (sheetOpened sheet area) ≡ firstOf Accepted (sheetLines sheet (openLines area))
-  pub entry-refuses : (sheet area : List ℕ) (e : Entry) → sheetRecorded sheet area e .verdict ≡ firstOf Accepted (sheetLines sheet (entryLines area e))
-  pub mend-refuses : (sheet area : List ℕ) → sheetMended sheet area .verdict ≡ firstOf Accepted (sheetLines sheet (openLines area))
-  pub plan-refuses : (sheet area out : List ℕ) → planVerdict (sheetPlanned sheet area out .0) ≡ firstOf Accepted (sheetLines sheet (planLines area (length out)))
-  pub table-refuses : (sheet out : List ℕ) → tableVerdict (sheetTabled sheet out .0) ≡ firstOf Accepted (sheetLines sheet (tableLines (length out)))
+  pub open-refuses : (sheet area : List ℕ) → verdictOf (opened.numbersOf (sheetOpened sheet area)) ≡ firstOf Accepted (onLines sheet (openLines area))
+  pub entry-refuses : (sheet area : List ℕ) (e : Entry) → sheetRecorded sheet area e .verdict ≡ firstOf Accepted (onLines sheet (entryLines area e))
+  pub mend-refuses : (sheet area : List ℕ) → sheetMended sheet area .verdict ≡ firstOf Accepted (onLines sheet (mendLines area))
+  pub plan-refuses : (sheet area out : List ℕ)
+      → verdictOf (planned.numbersOf (sheetPlanned sheet area out .0)) ≡ firstOf Accepted (onLines sheet (planLines area (length out)))
+  pub table-refuses : (sheet out : List ℕ) → verdictOf (tabled.numbersOf (sheetTabled sheet out .0)) ≡ firstOf Accepted (onLines sheet (tableLines (length out)))
   -- and a refused call has no stores and leaves every lent buffer as it was.
   pub entry-no-stores : (sheet area : List ℕ) (e : Entry) (number value : ℕ) → sheetRecorded sheet area e .verdict ≡ Refused number value
       → sheetRecorded sheet area e ≡ recordedWith (Refused number value) noStores
   pub mend-no-stores : (sheet area : List ℕ) (number value : ℕ) → sheetMended sheet area .verdict ≡ Refused number value
       → sheetMended sheet area ≡ notMended number value
-  pub plan-unaltered : (sheet area out : List ℕ) (number value : ℕ) → sheetPlanned sheet area out .0 ≡ planned.Refused number value
+  pub plan-unaltered : (sheet area out : List ℕ) (number value : ℕ) → verdictOf (planned.numbersOf (sheetPlanned sheet area out .0)) ≡ Refused number value
       → sheetPlanned sheet area out .1 ≡ out
-  pub table-unaltered : (sheet out : List ℕ) (number value : ℕ) → sheetTabled sheet out .0 ≡ table.Refused number value → sheetTabled sheet out .1 ≡ out
+  pub table-unaltered : (sheet out : List ℕ) (number value : ℕ) → verdictOf (tabled.numbersOf (sheetTabled sheet out .0)) ≡ Refused number value
+      → sheetTabled sheet out .1 ≡ out
+  -- What demand 3 says of a plan holds on every area that opens clean with an open day, however it came about.
+  pub plan-right : (sheet area out : List ℕ) (l : Ledger) → sheetOf sheet .verdict ≡ Accepted → sheetOpened sheet area ≡ Clean l
+      → l .day ≤ seasonDays (sheetOf sheet .season) → daysLeft (sheetOf sheet .season) (l .day) ≤ length out
+      → PlanKept (sheetOf sheet .season) l out (sheetPlanned sheet area out)
+  -- The planner's claims, whole: of any outlook, a plan is refused exactly when no choice holds, and a plan made is the best.
+  pub planning : planner.Claims
   -- Demand 2: an accepted sheet and its forty fields match one to one,
   pub sheet-as-written : (sheet : List ℕ) → Bytes sheet → sheetOf sheet .verdict ≡ Accepted → sheet ≡ written (numbersRead sheet .fields)
   pub written-as-sheet : (vs : List ℕ) → length vs ≡ 40 → fieldsVerdict vs ≡ Accepted

@@ -1,4 +1,4 @@
--- Document 01, 'The journal' and 'The book', as definitions that the contracts cite; then the cases marked †, and what is proved.
+-- Document 01, 'The journal' and 'The book', as definitions that the contracts cite; then edges, and what is proved.
 pub mod Entries
 pub mod Opening
 pub mod Specified

@@ -2,7 +2,7 @@
 use mathlib.Core.Path.{_≡_, refl, sym, _∙_, ap}
 use mathlib.Core.Logic.{_↔_, _⊎_, inl, inr}
 use mathlib.Core.Bool.{Bool, true, false}
-use mathlib.Core.List.{List, [], _∷_, _++_, map}
+use mathlib.Core.List.{List, [], _∷_, _++_}
 use Prim.Native.Nat.{ℕ, zero, suc, _+_, _-_, _*_, _/_, _≤_, _<_}
 use native.Mathlib.Omega.{arith}
 use native.Mathlib.Nat.{div-lt-iff-lt-mul}
@@ -12,19 +12,14 @@ use lib.Seq.{take-at, drop-at}
 use borrow.Author.Tests.{ltb-true, lt-ltb, le-ltb}
 use Rattle.season.specs.declared.Season.{Season}
 use Rattle.season.specs.Sheet.{Valid, DayOf}
-use Rattle.season.specs.Rules.{ramp, rampZ}
-use Rattle.season.specs.Calendar.{nextDay, daysOn}
-use Rattle.season.specs.Day.{dateOf, kcOf, cropNeed, rainOn}
 use Rattle.season.specs.declared.Net.{Net}
 use Rattle.season.specs.declared.Gross.{Gross}
 use Rattle.planner.specs.declared.Planned.{Planned}
 use Rattle.planner.specs.declared.Planned.the-variants.{Made, Refused}
 use Rattle.planner.specs.Choices.{Outlook, plannedDay, Holds, irrigated, Fills, NoMore, Best, FirstLost, NoChoice}
-use Rattle.planner.specs.Plan.{walk, ending, watered, Plan, depths, refused, pad, onWalk, byWalks, plan}
+use Rattle.planner.specs.Plan.{Plan, depths, refused, plan}
 use Rattle.planner.specs.Outlook.{outlook, daysLeft}
-use Rattle.planner.specs.Answer.{sum, numbersOf, answerTo, answer}
-use Rattle.season.specs.Cases.{small}
-use Rattle.planner.specs.Cases.{cases}
+use Rattle.planner.specs.Answer.{numbersOf, answerTo, answer}
 use Rattle.planner.specs.Claims.{MadeRight, Occurs, Claims}
 use Rattle.planner.proofs.Days.{Right}
 use Rattle.planner.proofs.Walks.{walks-right}
@@ -85,7 +80,7 @@ module _ (s : Season) (today D waiting : ℕ) (l : List ℕ) where
 
   -- what an answer says
   abbrev Says : Planned → List ℕ → Type 0
-  Says (Made days net gross) m = MadeRight s today D waiting l m days net gross
+  Says (Made days net gross) m = MadeRight s today D waiting l m days (net .0) (gross .0)
   Says (Refused number f) m =
       (m ≡ l) × (((number ≡ 15) × (length l < daysLeft s today)) ⊎ ((number ≡ 16) × FirstLost (outlook s today waiting) (daysLeft s today) today D f))
 
@@ -98,8 +93,8 @@ module _ (s : Season) (today D waiting : ℕ) (l : List ℕ) where
         best = rw first b;
         beyond = drop-at xs (drop (length xs) l) (daysLeft s today) (b .size) ∙ ap (λ n. drop n l) (b .size);
         count = rw first;
-        total = rw first;
-        gross-of-net = refl;
+        net-total = rw first;
+        gross-total = refl;
       }
 
   says : Says (answer s today D waiting l .0) (answer s today D waiting l .1)
@@ -124,7 +119,7 @@ module _ (s : Season) (today D waiting : ℕ) (l : List ℕ) where
   answer-refused-keeps number value m e = rw e at says .0
 
   answer-made-right : (days : ℕ) (net : Net) (gross : Gross) (m : List ℕ) → answer s today D waiting l ≡ (Made days net gross, m)
-      → MadeRight s today D waiting l m days net gross
+      → MadeRight s today D waiting l m days (net .0) (gross .0)
   answer-made-right days net gross m e = rw e at says
 
   answer-refused-iff : daysLeft s today ≤ length l
@@ -146,14 +141,10 @@ module _ (s : Season) (today D waiting : ℕ) (l : List ℕ) where
       → answer s today D waiting l ≡ (Made days net gross, m) → (net .0 ≤ 1215000) × (gross .0 ≤ 121500000)
   totals-fit days net gross m v d h e =
       let r = answer-made-right days net gross m e in
-      let n : net .0 ≤ 1215000 = rw (r .total) (omega (arith, net-at-most s today waiting D (take (daysLeft s today) m) v (d .from) (r .best))) in
+      let n : net .0 ≤ 1215000 = rw (r .net-total) (omega (arith, net-at-most s today waiting D (take (daysLeft s today) m) v (d .from) (r .best))) in
       let g : (net .0 * 100 + (s .efficiency - 1)) / s .efficiency < 121500001
       = div-lt-iff-lt-mul {k = s .efficiency} (omega (arith, v .ranges .efficiency .low≤)) .1 (omega (arith, v .ranges .efficiency .low≤)) in
-      (n, rw (r .gross-of-net) (omega arith))
-
-cases-hold : map (λ (c : List ℕ × List ℕ). c .0) cases ≡ map (λ (c : List ℕ × List ℕ). c .1) cases
-unfolding cases small answer answerTo byWalks onWalk pad walk ending watered irrigated sum dateOf kcOf cropNeed rainOn nextDay daysOn ramp rampZ
-cases-hold = refl
+      (n, rw (r .gross-total) (omega arith))
 
 numbers-one-to-one : (a b : Planned) → numbersOf a ≡ numbersOf b → a ≡ b
 numbers-one-to-one (Made a b c) (Made d e f) h =
@@ -183,5 +174,4 @@ claims = record {
   totals-fit = λ s today D waiting days net gross l m. totals-fit s today D waiting l days net gross m;
   numbers-one-to-one = numbers-one-to-one;
   answer-occurs = answer-occurs;
-  cases-hold = cases-hold;
 }

@@ -2,29 +2,28 @@
 -- proofs/Claims.antt, has a proof of each field.
 use mathlib.Core.Path.{_≡_}
 use mathlib.Core.Logic.{_↔_, _⊎_}
-use mathlib.Core.List.{List, map}
+use mathlib.Core.List.{List}
 use Prim.Native.Nat.{ℕ, _≤_, _<_}
 use lib.ListN.{length, take, drop}
 use Rattle.season.specs.declared.Season.{Season}
 use Rattle.season.specs.declared.Net.{Net}
 use Rattle.season.specs.declared.Gross.{Gross}
 use Rattle.season.specs.Sheet.{Valid, DayOf}
-use Rattle.season.specs.Depths.{grossOf}
+use Rattle.season.specs.Depths.{netIs, grossOf}
 use Rattle.planner.specs.declared.Planned.{Planned}
 use Rattle.planner.specs.declared.Planned.the-variants.{Made, Refused}
 use Rattle.planner.specs.Choices.{Outlook, irrigated, NoMore, Holds, Best, FirstLost, NoChoice}
 use Rattle.planner.specs.Plan.{depths, refused, plan}
 use Rattle.planner.specs.Outlook.{outlook, daysLeft}
-use Rattle.planner.specs.Answer.{netOf, numbersOf, answer}
-use Rattle.planner.specs.Cases.{cases}
+use Rattle.planner.specs.Answer.{sum, numbersOf, answer}
 
 -- What a plan made for a season and its ledger leaves in the buffer, l at first and m in the end, and answers.
-pub record MadeRight (s : Season) (today D waiting : ℕ) (l m : List ℕ) (days : ℕ) (net : Net) (gross : Gross) : Type 0 where
+pub record MadeRight (s : Season) (today D waiting : ℕ) (l m : List ℕ) (days net gross : ℕ) : Type 0 where
   pub best : Best (outlook s today waiting) (daysLeft s today) today D (take (daysLeft s today) m)
   pub beyond : drop (daysLeft s today) m ≡ drop (daysLeft s today) l
   pub count : days ≡ irrigated (take (daysLeft s today) m)
-  pub total : net ≡ netOf (take (daysLeft s today) m)
-  pub gross-of-net : gross ≡ grossOf (s .efficiency) net
+  pub net-total : net ≡ sum (take (daysLeft s today) m)
+  pub gross-total : gross ≡ grossOf (s .efficiency) (netIs net) .0
 
 -- The answers that can occur: a refusal is 15 or 16.
 abbrev pub Occurs : Planned → Type 0
@@ -54,12 +53,10 @@ pub record Claims : Type 0 where
   pub answer-refused-keeps : (s : Season) (today D waiting number value : ℕ) (l m : List ℕ) → answer s today D waiting l ≡ (Refused number value, m) → m ≡ l
   -- A plan made is the best choice, counted and totalled, and what stands beyond it stays.
   pub answer-made-right : (s : Season) (today D waiting days : ℕ) (net : Net) (gross : Gross) (l m : List ℕ) → answer s today D waiting l ≡ (Made days net gross, m)
-      → MadeRight s today D waiting l m days net gross
+      → MadeRight s today D waiting l m days (net .0) (gross .0)
   -- The totals fit a u32: at most the depletion at first and 3,000 a day, and a hundred times that.
   pub totals-fit : (s : Season) (today D waiting days : ℕ) (net : Net) (gross : Gross) (l m : List ℕ) → Valid s → DayOf s today → D ≤ 120000
       → answer s today D waiting l ≡ (Made days net gross, m) → (net .0 ≤ 1215000) × (gross .0 ≤ 121500000)
   -- Different answers have different numbers, and the answers given are those that can occur.
   pub numbers-one-to-one : (a b : Planned) → numbersOf a ≡ numbersOf b → a ≡ b
   pub answer-occurs : (s : Season) (today D waiting : ℕ) (l : List ℕ) → Occurs (answer s today D waiting l .0)
-  -- The cases marked †.
-  pub cases-hold : map (λ (c : List ℕ × List ℕ). c .0) cases ≡ map (λ (c : List ℕ × List ℕ). c .1) cases
