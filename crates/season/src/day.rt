@@ -1,0 +1,167 @@
+// Document 01, 'A day's numbers'.
+use crate::Kc;
+use crate::Season;
+use crate::SeasonDay;
+use crate::Slope;
+use crate::numbers::quotient;
+use crate::numbers::saturating_sub;
+ghost use mathlib.Core.Path.{_≡_};
+ghost use Prim.Native.Nat.{_≤_};
+ghost use Rattle.season.specs.Sheet.{Ranged, Valid, DayOf};
+ghost use Rattle.season.specs.Rules.{ramp, effectiveRain, rainTo};
+ghost use Rattle.season.specs.Carried.{constant, sloping, slopeOf, OnDay};
+ghost use Rattle.season.specs.Day.{kcOf, cropNeed, rootOn, totalOn, readyOn};
+
+// Kp × L + k × (Kn − Kp): Kc on day k of a stage of L days, times L.
+fn ramp_of(before: u32, after: u32, days: u32, day: u32) -> u32
+    requires { ⌜ (before ≤ 200) × (after ≤ 200) × (days ≤ 200) × (day ≤ days) ⌝ }
+    ensures { λ r. ⌜ r ≡ ramp before after days day ⌝ }
+{
+    let rise = after as i32 - before as i32;
+    let sum = (before * days) as i32 + day as i32 * rise;
+    sum as u32
+}
+
+// A stage of one coefficient.
+fn constant_to(last: u32, kc: u32) -> Slope
+    ensures { λ r. ⌜ r ≡ constant last kc ⌝ }
+{
+    Slope {
+        top: kc,
+        bottom: 1,
+        up: 0,
+        down: 0,
+        last,
+    }
+}
+
+// Day k of a stage of L days that goes from Kp to Kn.
+fn sloping_to(last: u32, before: u32, after: u32, days: u32, day: u32) -> Slope
+    requires { ⌜ (before ≤ 200) × (after ≤ 200) × (days ≤ 200) × (day ≤ days) ⌝ }
+    ensures { λ r. ⌜ r ≡ sloping last before after days day ⌝ }
+{
+    Slope {
+        top: ramp_of(before, after, days, day),
+        bottom: days,
+        up: after,
+        down: before,
+        last,
+    }
+}
+
+// The stage of a day. Past the season there is none, and no day to go on to.
+pub fn slope_of(s: Season, day: u32) -> Slope
+    requires { ⌜ Ranged s ⌝ }
+    ensures { λ r. ⌜ r ≡ slopeOf s day ⌝ }
+{
+    let sown = s.initial;
+    let grown = sown + s.development;
+    let ripe = grown + s.middle;
+    let end = ripe + s.late;
+    if day <= sown {
+        return constant_to(sown, s.kcini);
+    }
+    if day <= grown {
+        return sloping_to(grown, s.kcini, s.kcmid, s.development, day - sown);
+    }
+    if day <= ripe {
+        return constant_to(ripe, s.kcmid);
+    }
+    if day <= end {
+        return sloping_to(end, s.kcmid, s.kcend, s.late, day - ripe);
+    }
+    constant_to(end, 0)
+}
+
+pub fn kc_of(s: Season, day: u32) -> Kc
+    requires { ⌜ Valid s ⌝ }
+    requires { ⌜ DayOf s day ⌝ }
+    ensures { λ r. ⌜ r ≡ kcOf s day ⌝ }
+{
+    let slope = slope_of(s, day);
+    Kc {
+        top: slope.top,
+        bottom: slope.bottom,
+    }
+}
+
+// C of a season day.
+pub fn crop_need(s: Season, t: SeasonDay) -> u32
+    requires { ⌜ Valid s ⌝ }
+    requires { ⌜ OnDay s t ⌝ }
+    ensures { λ r. ⌜ r ≡ cropNeed s (t .number) ⌝ }
+{
+    quotient(t.top, t.reciprocal)
+}
+
+// Root depth Z. Roots are full grown on day G.
+fn root_depth(s: Season, day: u32) -> u32
+    requires { ⌜ Ranged s ⌝ }
+    ensures { λ r. ⌜ r ≡ rootOn s day ⌝ }
+{
+    let growing = s.initial + s.development;
+    let growth = saturating_sub(s.full, s.sowing);
+    if growing <= day {
+        return s.sowing + growth;
+    }
+    s.sowing + growth * day / growing
+}
+
+// T.
+pub fn total_water(s: Season, day: u32) -> u32
+    requires { ⌜ Ranged s ⌝ }
+    ensures { λ r. ⌜ r ≡ totalOn s day ⌝ }
+{
+    s.water * root_depth(s, day)
+}
+
+// Root depth on a season day, with no division.
+fn root_on(s: Season, t: SeasonDay) -> u32
+    requires { ⌜ Valid s ⌝ }
+    requires { ⌜ OnDay s t ⌝ }
+    ensures { λ r. ⌜ r ≡ rootOn s (t .number) ⌝ }
+{
+    if s.initial + s.development <= t.number {
+        return s.sowing + saturating_sub(s.full, s.sowing);
+    }
+    s.sowing + quotient(t.number, t.growth_per_day)
+}
+
+// T on a season day.
+pub fn total_on(s: Season, t: SeasonDay) -> u32
+    requires { ⌜ Valid s ⌝ }
+    requires { ⌜ OnDay s t ⌝ }
+    ensures { λ r. ⌜ r ≡ totalOn s (t .number) ⌝ }
+{
+    s.water * root_on(s, t)
+}
+
+// R on a season day.
+pub fn ready_on(s: Season, t: SeasonDay) -> u32
+    requires { ⌜ Valid s ⌝ }
+    requires { ⌜ OnDay s t ⌝ }
+    ensures { λ r. ⌜ r ≡ readyOn s (t .number) ⌝ }
+{
+    s.fraction * total_on(s, t) / 100
+}
+
+pub fn effective_rain(q: u32) -> u32
+    requires { ⌜ q ≤ 60000 ⌝ }
+    ensures { λ r. ⌜ r ≡ effectiveRain q ⌝ }
+{
+    if q <= 25000 {
+        q * (62500 - q) / 62500
+    } else {
+        12500 + q / 10
+    }
+}
+
+// Of the effective rain of t's month, what is planned on its first d days.
+pub fn rain_to(s: Season, t: SeasonDay, d: u32) -> u32
+    requires { ⌜ Valid s ⌝ }
+    requires { ⌜ OnDay s t ⌝ }
+    requires { ⌜ d ≤ 31 ⌝ }
+    ensures { λ r. ⌜ r ≡ rainTo (t .effective) d (t .length) ⌝ }
+{
+    quotient(d, t.rain_per_day)
+}
