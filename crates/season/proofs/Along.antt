@@ -8,11 +8,11 @@ use Rattle.season.specs.declared.Season.{Season}
 use Rattle.season.specs.declared.Date.{Date}
 use Rattle.season.specs.declared.SeasonDay.{SeasonDay}
 use Rattle.season.specs.Calendar.{monthDays, dateIs}
-use Rattle.season.specs.Sheet.{Valid, seasonDays}
+use Rattle.season.specs.Sheet.{Ranged, Valid, DayOf, seasonDays}
 use Rattle.season.specs.Carried.{reciprocal, scaled, slopeOf, needsAfter, onDate, dayOf, OnDay}
 use Rattle.season.specs.Day.{etoIn, dateOf, cropNeed}
 use Rattle.season.proofs.Calendar.{next-in, days-high}
-use Rattle.season.proofs.Slopes.{slope-next, last-within}
+use Rattle.season.proofs.Slopes.{slope-next, left-within}
 use Rattle.season.proofs.Laws.{product}
 use Rattle.season.proofs.Bounds.{date-proper, need-le, up-weighed, down-weighed}
 use Rattle.season.proofs.Days.{date-next, on-day, on-number, top-small, need-is, need-fits}
@@ -66,9 +66,9 @@ along-more k a b c p q = record {
 }
 
 -- the dates and the stage go on
-on-dates : (s : Season) (i : ℕ) (t : Date) → t .day < monthDays (t .month) → i < slopeOf s i .last → Along 1 (onDate s i t) (onDate s (i + 1) (dateIs (t .month) (t .day + 1)))
-on-dates s i t h m =
-    let n = slope-next s i m in
+on-dates : (s : Season) (i : ℕ) (t : Date) → Ranged s → i ≤ seasonDays s → t .day < monthDays (t .month) → 0 < slopeOf s i .left → Along 1 (onDate s i t) (onDate s (i + 1) (dateIs (t .month) (t .day + 1)))
+on-dates s i t r to h m =
+    let n = slope-next s i r to m in
     let e = etoIn s (t .month) in
     let a = slopeOf s i in
     let b = slopeOf s (i + 1) in
@@ -78,7 +78,7 @@ on-dates s i t h m =
       day = refl;
       length = refl;
       effective = refl;
-      left = omega (arith, n .last);
+      left = omega (arith, n .left);
       top = omega (arith, n .bottom, ap (λ (x : ℕ). e * x) (n .top), mul-add e (b .top) (a .down), mul-add e (a .top) (a .up));
       up = ap (λ (x : ℕ). e * x) (n .up);
       down = ap (λ (x : ℕ). e * x) (n .down);
@@ -87,28 +87,34 @@ on-dates s i t h m =
       «growth_per_day» = refl;
     }
 
-along-one : (s : Season) (i : ℕ) → 1 ≤ i → 0 < dayOf s i .left → Along 1 (dayOf s i) (dayOf s (i + 1))
-unfolding dayOf
-along-one s i h l =
-    let t = dateOf s i in
-    let more : t .day < monthDays (t .month) = omega arith in
-    subst (λ (d : Date). Along 1 (onDate s i t) (onDate s (i + 1) d)) (sym (date-next s i h ∙ next-in (t .month) (t .day) more))
-    (on-dates s i t more (omega arith))
+module _ (s : Season) (r : Ranged s) where
+  -- The days after that are left are days of the season.
+  days-within : (i : ℕ) → DayOf s i → i + dayOf s i .left ≤ seasonDays s
+  unfolding dayOf
+  days-within i d = omega (arith, left-within s i r (d .to))
 
-along-days : (s : Season) (i k : ℕ) → 1 ≤ i → k ≤ dayOf s i .left → Along k (dayOf s i) (dayOf s (i + k))
-along-days s i zero h l = along-none _ _ (ap (dayOf s) (omega arith))
-along-days s i (suc k) h l =
-    let p = along-days s i k h (omega arith) in
-    let q = along-one s (i + k) (omega arith) (omega (arith, p .left)) in
-    let e : i + k + 1 ≡ i + suc k = omega arith in
-    let f : k + 1 ≡ suc k = add-one k in
-    subst (λ (n : ℕ). Along n (dayOf s i) (dayOf s (i + suc k))) f (subst (λ (n : ℕ). Along (k + 1) (dayOf s i) (dayOf s n)) e (along-more k _ _ _ p q))
+  along-one : (i : ℕ) → DayOf s i → 0 < dayOf s i .left → Along 1 (dayOf s i) (dayOf s (i + 1))
+  unfolding dayOf
+  along-one i d l =
+      let t = dateOf s i in
+      let more : t .day < monthDays (t .month) = omega arith in
+      subst (λ (u : Date). Along 1 (onDate s i t) (onDate s (i + 1) u)) (sym (date-next s i (d .from) ∙ next-in (t .month) (t .day) more))
+      (on-dates s i t r (d .to) more (omega arith))
+
+  along-days : (i k : ℕ) → DayOf s i → k ≤ dayOf s i .left → Along k (dayOf s i) (dayOf s (i + k))
+  along-days i zero d l = along-none _ _ (ap (dayOf s) (omega arith))
+  along-days i (suc k) d l =
+      let p = along-days i k d (omega arith) in
+      let q = along-one (i + k) (record { from = omega (arith, d .from); to = omega (arith, days-within i d) }) (omega (arith, p .left)) in
+      let e : i + k + 1 ≡ i + suc k = omega arith in
+      let f : k + 1 ≡ suc k = add-one k in
+      subst (λ (n : ℕ). Along n (dayOf s i) (dayOf s (i + suc k))) f (subst (λ (n : ℕ). Along (k + 1) (dayOf s i) (dayOf s n)) e (along-more k _ _ _ p q))
 
 module _ {s : Season} {t : SeasonDay} (v : Valid s) (o : OnDay s t) (k : ℕ) (h : k ≤ t .left) where
   pub along : Along k t (dayOf s (t .number + k))
   along =
       let l : k ≤ dayOf s (t .number) .left = rw (← (ap (λ (d : SeasonDay). d .left) (o .is))) h in
-      subst (λ (d : SeasonDay). Along k d (dayOf s (t .number + k))) (sym (o .is)) (along-days s (t .number) k (o .of .from) l)
+      subst (λ (d : SeasonDay). Along k d (dayOf s (t .number + k))) (sym (o .is)) (along-days s (v .ranges) (t .number) k (o .of) l)
 
   -- `top` does not go below zero
   pub along-top : k * t .down ≤ t .top + k * t .up
@@ -170,10 +176,9 @@ module _ {s : Season} {t : SeasonDay} (v : Valid s) (o : OnDay s t) where
   -- A day of the stretch is a day of the season, and what it carries gives its need.
   pub along-on : (k : ℕ) → k ≤ t .left → OnDay s (dayOf s (t .number + k))
   unfolding dayOf
-  along-on k h = on-day s _ (t .number + k) (record { from = omega (arith, o .of .from); to = omega (arith, h, left-within) }) refl
-    where
-      left-within : t .left + t .number ≤ seasonDays s
-      left-within = rw (ap (λ (d : SeasonDay). d .left) (o .is)) (omega (arith, last-within s (t .number) (v .ranges) (o .of)))
+  along-on k h =
+      let l : k ≤ dayOf s (t .number) .left = rw (← (ap (λ (d : SeasonDay). d .left) (o .is))) h in
+      on-day s _ (t .number + k) (record { from = omega (arith, o .of .from); to = omega (arith, l, days-within s (v .ranges) (t .number) (o .of)) }) refl
 
   module _ (k x : ℕ) (h : k ≤ t .left) (e : x + k * t .down ≡ t .top + k * t .up) where
     top-along : x ≡ dayOf s (t .number + k) .top

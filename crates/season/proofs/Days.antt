@@ -114,7 +114,7 @@ module _ {s : Season} {t : SeasonDay} (v : Valid s) (o : OnDay s t) where
   need-quotient =
       let e = etoIn s (dateOf s (t .number) .month) in
       let two : 2 * t .top ≡ 2 * (e * stage .top) + 100 * stage .bottom = omega (arith, top-is) in
-      rw (kc-slope s (t .number) (o .of), ← two) (sym (mul-div-mul-left (t .top) hundred (omega arith)))
+      rw (kc-slope s (t .number) (v .ranges) (o .of), ← two) (sym (mul-div-mul-left (t .top) hundred (omega arith)))
 
   pub need-is : scaled (t .top) (t .reciprocal) ≡ cropNeed s (t .number)
   need-is = rw reciprocal-is (by-reciprocal (t .top) hundred some small ∙ need-quotient)

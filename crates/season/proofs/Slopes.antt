@@ -1,5 +1,5 @@
 -- The stages of a season: the coefficient's slope on each day, how large it is, and that it goes on to the next day of the stage.
-use mathlib.Core.Path.{_≡_, refl, ap}
+use mathlib.Core.Path.{_≡_, refl, _∙_, ap}
 use Prim.Native.Nat.{ℕ, _+_, _-_, _*_, _≤_, _<_}
 use native.Mathlib.Nat.{mul-add, mul-one}
 use native.Mathlib.Omega.{arith}
@@ -7,66 +7,114 @@ use borrow.Author.Tests.{le-leb, lt-leb}
 use Rattle.season.specs.declared.Season.{Season}
 use Rattle.season.specs.declared.Slope.{Slope}
 use Rattle.season.specs.Sheet.{Ranged, DayOf, seasonDays}
+use Rattle.season.specs.Rules.{ramp}
 use Rattle.season.specs.Carried.{constant, sloping, slopeOf}
-use Rattle.season.specs.Day.{kcOf, ratio}
+use Rattle.season.specs.Day.{inStage, kcOf, ratio}
 use Rattle.season.proofs.Whole.{by-order}
 use Rattle.season.proofs.Ramp.{ramp-is, ramp-le}
 
-module _ (s : Season) (i : ℕ) where
-  -- The four stages and what is past them.
-  pub by-stage {ℓ} : {P : Type ℓ} → (i ≤ s .initial → P) → (s .initial < i → i ≤ s .initial + s .development → P)
-      → (s .initial + s .development < i → i ≤ s .initial + s .development + s .middle → P)
-      → (s .initial + s .development + s .middle < i → i ≤ seasonDays s → P) → (seasonDays s < i → P) → P
-  by-stage f g h j k =
-      by-order (s .initial) i f (λ a.
-      by-order (s .initial + s .development) i (g a) (λ b.
-      by-order (s .initial + s .development + s .middle) i (h b) (λ c.
-      by-order (seasonDays s) i (j c) k)))
-
-  pub in-initial : i ≤ s .initial → slopeOf s i ≡ constant (s .initial) (s .kcini)
-  unfolding slopeOf
+-- The choice of the stage, in each of the four.
+module _ {A : Type 0} (level : ℕ → ℕ → ℕ → A) (slope : ℕ → ℕ → ℕ → ℕ → A) (s : Season) (i : ℕ) where
+  pub in-initial : i ≤ s .initial → inStage level slope s i ≡ level (s .kcini) (s .initial) i
+  unfolding inStage
   in-initial h = simp (le-leb _ _ h)
 
   pub in-development : s .initial < i → i ≤ s .initial + s .development
-      → slopeOf s i ≡ sloping (s .initial + s .development) (s .kcini) (s .kcmid) (s .development) (i - s .initial)
-  unfolding slopeOf
+      → inStage level slope s i ≡ slope (s .kcini) (s .kcmid) (s .development) (i - s .initial)
+  unfolding inStage
   in-development l h = simp (lt-leb _ _ l, le-leb _ _ h)
 
   pub in-middle : s .initial + s .development < i → i ≤ s .initial + s .development + s .middle
-      → slopeOf s i ≡ constant (s .initial + s .development + s .middle) (s .kcmid)
-  unfolding slopeOf
+      → inStage level slope s i ≡ level (s .kcmid) (s .middle) (i - (s .initial + s .development))
+  unfolding inStage
   in-middle l h =
       let l₁ : s .initial < i = omega arith in
       simp (lt-leb _ _ l₁, lt-leb _ _ l, le-leb _ _ h)
 
-  pub in-late : s .initial + s .development + s .middle < i → i ≤ seasonDays s
-      → slopeOf s i ≡ sloping (seasonDays s) (s .kcmid) (s .kcend) (s .late) (i - (s .initial + s .development + s .middle))
-  unfolding slopeOf
-  in-late l h =
+  pub in-late : s .initial + s .development + s .middle < i
+      → inStage level slope s i ≡ slope (s .kcmid) (s .kcend) (s .late) (i - (s .initial + s .development + s .middle))
+  unfolding inStage
+  in-late l =
       let l₁ : s .initial < i = omega arith in
       let l₂ : s .initial + s .development < i = omega arith in
-      simp (lt-leb _ _ l₁, lt-leb _ _ l₂, lt-leb _ _ l, le-leb _ _ h)
+      simp (lt-leb _ _ l₁, lt-leb _ _ l₂, lt-leb _ _ l)
 
-  pub past-season : seasonDays s < i → slopeOf s i ≡ constant (seasonDays s) 0
+-- Day i is day k of a stage of L days, of one coefficient or of two. Where it is not the last of them, the next day is day k + 1.
+pub record Level (s : Season) (i kc l k : ℕ) : Type 1 where
+  pub here : {A : Type 0} (level : ℕ → ℕ → ℕ → A) (slope : ℕ → ℕ → ℕ → ℕ → A) → inStage level slope s i ≡ level kc l k
+  pub next : {A : Type 0} (level : ℕ → ℕ → ℕ → A) (slope : ℕ → ℕ → ℕ → ℕ → A) → k < l → inStage level slope s (i + 1) ≡ level kc l (k + 1)
+  pub within : i + (l - k) ≤ seasonDays s
+  pub kc-le : kc ≤ 200
+
+pub record Sloped (s : Season) (i kp kn l k : ℕ) : Type 1 where
+  pub here : {A : Type 0} (level : ℕ → ℕ → ℕ → A) (slope : ℕ → ℕ → ℕ → ℕ → A) → inStage level slope s i ≡ slope kp kn l k
+  pub next : {A : Type 0} (level : ℕ → ℕ → ℕ → A) (slope : ℕ → ℕ → ℕ → ℕ → A) → k < l → inStage level slope s (i + 1) ≡ slope kp kn l (k + 1)
+  pub within : i + (l - k) ≤ seasonDays s
+  pub day : k ≤ l
+  pub some : 1 ≤ l
+  pub few : l ≤ 200
+  pub before-le : kp ≤ 200
+  pub after-le : kn ≤ 200
+
+-- The days of a season, by their stages.
+pub by-stage {ℓ} : {P : Type ℓ} (s : Season) (i : ℕ) → Ranged s → i ≤ seasonDays s → ((kc l k : ℕ) → Level s i kc l k → P)
+    → ((kp kn l k : ℕ) → Sloped s i kp kn l k → P) → P
+by-stage s i r to f g =
+    by-order (s .initial) i
+    (λ h. f _ _ _ (record {
+      here = λ a b. in-initial a b s i h;
+      next = λ a b m. in-initial a b s (i + 1) (omega arith);
+      within = omega arith;
+      kc-le = r .kcini .≤high;
+    }))
+    (λ l₁. by-order (s .initial + s .development) i
+    (λ h. g _ _ _ _ (record {
+      here = λ a b. in-development a b s i l₁ h;
+      next = λ a b m. in-development a b s (i + 1) (omega arith) (omega arith) ∙ ap (b _ _ _) (omega arith);
+      within = omega arith;
+      day = omega arith;
+      some = r .development .low≤;
+      few = r .development .≤high;
+      before-le = r .kcini .≤high;
+      after-le = r .kcmid .≤high;
+    }))
+    (λ l₂. by-order (s .initial + s .development + s .middle) i
+    (λ h. f _ _ _ (record {
+      here = λ a b. in-middle a b s i l₂ h;
+      next = λ a b m. in-middle a b s (i + 1) (omega arith) (omega arith) ∙ ap (a _ _) (omega arith);
+      within = omega arith;
+      kc-le = r .kcmid .≤high;
+    }))
+    (λ l₃. g _ _ _ _ (record {
+      here = λ a b. in-late a b s i l₃;
+      next = λ a b m. in-late a b s (i + 1) (omega arith) ∙ ap (b _ _ _) (omega arith);
+      within = omega arith;
+      day = omega arith;
+      some = r .late .low≤;
+      few = r .late .≤high;
+      before-le = r .kcmid .≤high;
+      after-le = r .kcend .≤high;
+    }))))
+
+module _ (s : Season) (i : ℕ) where
+  pub slope-in : i ≤ seasonDays s → slopeOf s i ≡ inStage constant sloping s i
   unfolding slopeOf
-  past-season l =
-      let l₁ : s .initial < i = omega arith in
-      let l₂ : s .initial + s .development < i = omega arith in
-      let l₃ : s .initial + s .development + s .middle < i = omega arith in
-      simp (lt-leb _ _ l₁, lt-leb _ _ l₂, lt-leb _ _ l₃, lt-leb _ _ l)
+  slope-in h = simp (le-leb _ _ h)
+
+  pub past-season : seasonDays s < i → slopeOf s i ≡ constant 0 0 0
+  unfolding slopeOf
+  past-season h = simp (lt-leb _ _ h)
+
+  kc-in : kcOf s i ≡ inStage (λ kc l k. ratio kc 1) (λ kp kn l k. ratio (ramp kp kn l k) l) s i
+  unfolding kcOf inStage
+  kc-in = refl
 
   -- Kc is the slope's quotient.
-  pub kc-slope : DayOf s i → kcOf s i ≡ ratio (slopeOf s i .top) (slopeOf s i .bottom)
-  unfolding kcOf
-  kc-slope d =
-      by-stage
-      (λ h. rw (in-initial h) (simp (le-leb _ _ h)))
-      (λ l h. rw (in-development l h) (simp (lt-leb _ _ l, le-leb _ _ h)))
-      (λ l h. let l₁ : s .initial < i = omega arith in rw (in-middle l h) (simp (lt-leb _ _ l₁, lt-leb _ _ l, le-leb _ _ h)))
-      (λ l h. let l₁ : s .initial < i = omega arith in
-      let l₂ : s .initial + s .development < i = omega arith in
-      rw (in-late l h) (simp (lt-leb _ _ l₁, lt-leb _ _ l₂, lt-leb _ _ l)))
-      (λ l. absurd (omega (arith, d .to)))
+  pub kc-slope : Ranged s → DayOf s i → kcOf s i ≡ ratio (slopeOf s i .top) (slopeOf s i .bottom)
+  kc-slope r d =
+      by-stage s i r (d .to)
+      (λ kc l k e. rw (kc-in, slope-in (d .to), e .here constant sloping) (e .here _ _))
+      (λ kp kn l k e. rw (kc-in, slope-in (d .to), e .here constant sloping) (e .here _ _))
 
 -- A coefficient of at most 200 hundredths, over at most 200 days.
 pub record Small (k : Slope) : Type 0 where
@@ -76,20 +124,17 @@ pub record Small (k : Slope) : Type 0 where
   pub up-le : k .up ≤ 200
   pub down-le : k .down ≤ 200
 
-small-constant : (last k : ℕ) → k ≤ 200 → Small (constant last k)
-small-constant last k h = record { some = omega arith; few = omega arith; top-le = omega arith; up-le = omega arith; down-le = omega arith }
-
-small-sloping : (last kp kn l k : ℕ) → kp ≤ 200 → kn ≤ 200 → 1 ≤ l → l ≤ 200 → k ≤ l → Small (sloping last kp kn l k)
-small-sloping last kp kn l k hp hn h1 hl hk = record { some = h1; few = hl; top-le = ramp-le kp kn l k 200 hk hp hn; up-le = hn; down-le = hp }
+small-constant : (kc l k : ℕ) → kc ≤ 200 → Small (constant kc l k)
+small-constant kc l k h = record { some = omega arith; few = omega arith; top-le = omega arith; up-le = omega arith; down-le = omega arith }
 
 pub slope-small : (s : Season) (i : ℕ) → Ranged s → Small (slopeOf s i)
 slope-small s i r =
-    by-stage s i
-    (λ h. rw (in-initial s i h) (small-constant _ _ (r .kcini .≤high)))
-    (λ l h. rw (in-development s i l h) (small-sloping _ _ _ _ _ (r .kcini .≤high) (r .kcmid .≤high) (r .development .low≤) (r .development .≤high) (omega arith)))
-    (λ l h. rw (in-middle s i l h) (small-constant _ _ (r .kcmid .≤high)))
-    (λ l h. rw (in-late s i l h) (small-sloping _ _ _ _ _ (r .kcmid .≤high) (r .kcend .≤high) (r .late .low≤) (r .late .≤high) (omega arith)))
-    (λ l. rw (past-season s i l) (small-constant _ 0 (omega arith)))
+    by-order (seasonDays s) i
+    (λ to. by-stage s i r to
+    (λ kc l k e. rw (slope-in s i to, e .here constant sloping) (small-constant kc l k (e .kc-le)))
+    (λ kp kn l k e. rw (slope-in s i to, e .here constant sloping)
+    (record { some = e .some; few = e .few; top-le = ramp-le kp kn l k 200 (e .day) (e .before-le) (e .after-le); up-le = e .after-le; down-le = e .before-le })))
+    (λ past. rw (past-season s i past) (small-constant 0 0 0 (omega arith)))
 
 -- The next day of a stage: its top is `up` less `down` more.
 pub record Next (a b : Slope) : Type 0 where
@@ -97,51 +142,40 @@ pub record Next (a b : Slope) : Type 0 where
   pub bottom : b .bottom ≡ a .bottom
   pub up : b .up ≡ a .up
   pub down : b .down ≡ a .down
-  pub last : b .last ≡ a .last
+  pub left : b .left + 1 ≡ a .left
 
-next-constant : (last k : ℕ) → Next (constant last k) (constant last k)
-next-constant last k = record { top = refl; bottom = refl; up = refl; down = refl; last = refl }
+next-constant : (kc l k : ℕ) → k < l → Next (constant kc l k) (constant kc l (k + 1))
+next-constant kc l k h = record { top = refl; bottom = refl; up = refl; down = refl; left = omega arith }
 
-next-sloping : (last kp kn l k : ℕ) → k + 1 ≤ l → Next (sloping last kp kn l k) (sloping last kp kn l (k + 1))
-next-sloping last kp kn l k h = record {
+next-sloping : (kp kn l k : ℕ) → k < l → Next (sloping kp kn l k) (sloping kp kn l (k + 1))
+next-sloping kp kn l k h = record {
   top =
       let a = ramp-is kp kn l k (omega arith) in
-      let b = ramp-is kp kn l (k + 1) h in
+      let b = ramp-is kp kn l (k + 1) (omega arith) in
       let e : l - k ≡ l - (k + 1) + 1 = omega arith in
       omega (arith, a, b, ap (λ (n : ℕ). kp * n) e, mul-add kp (l - (k + 1)) 1, mul-add kn k 1, mul-one kp, mul-one kn);
   bottom = refl;
   up = refl;
   down = refl;
-  last = refl;
+  left = omega arith;
 }
 
-pub slope-next : (s : Season) (i : ℕ) → i < slopeOf s i .last → Next (slopeOf s i) (slopeOf s (i + 1))
-slope-next s i =
-    by-stage s i
-    (λ h more. let e = in-initial s i h in
-    let m : i < s .initial = rw e at more in
-    rw (e, in-initial s (i + 1) (omega arith)) (next-constant _ _))
-    (λ l h more. let e = in-development s i l h in
-    let m : i < s .initial + s .development = rw e at more in
-    let k : i + 1 - s .initial ≡ i - s .initial + 1 = omega arith in
-    rw (e, in-development s (i + 1) (omega arith) (omega arith), k) (next-sloping _ _ _ _ _ (omega arith)))
-    (λ l h more. let e = in-middle s i l h in
-    let m : i < s .initial + s .development + s .middle = rw e at more in
-    rw (e, in-middle s (i + 1) (omega arith) (omega arith)) (next-constant _ _))
-    (λ l h more. let e = in-late s i l h in
-    let m : i < seasonDays s = rw e at more in
-    let k : i + 1 - (s .initial + s .development + s .middle) ≡ i - (s .initial + s .development + s .middle) + 1 = omega arith in
-    rw (e, in-late s (i + 1) (omega arith) (omega arith), k) (next-sloping _ _ _ _ _ (omega arith)))
-    (λ l more. let e = past-season s i l in
-    let m : i < seasonDays s = rw e at more in
-    absurd (omega arith))
+pub slope-next : (s : Season) (i : ℕ) → Ranged s → i ≤ seasonDays s → 0 < slopeOf s i .left → Next (slopeOf s i) (slopeOf s (i + 1))
+slope-next s i r to =
+    by-stage s i r to
+    (λ kc l k e more. let here = slope-in s i to ∙ e .here constant sloping in
+    let m : k < l = days-left l k (rw here at more) in
+    rw (here, slope-in s (i + 1) (omega (arith, e .within)), e .next constant sloping m) (next-constant kc l k m))
+    (λ kp kn l k e more. let here = slope-in s i to ∙ e .here constant sloping in
+    let m : k < l = days-left l k (rw here at more) in
+    rw (here, slope-in s (i + 1) (omega (arith, e .within)), e .next constant sloping m) (next-sloping kp kn l k m))
+  where
+    days-left : (l k : ℕ) → 0 < l - k → k < l
+    days-left l k h = omega arith
 
--- A stage ends within the season, and not before its day.
-pub last-within : (s : Season) (i : ℕ) → Ranged s → DayOf s i → (i ≤ slopeOf s i .last) × (slopeOf s i .last ≤ seasonDays s)
-last-within s i r d =
-    by-stage s i
-    (λ h. rw (in-initial s i h) (h, omega arith))
-    (λ l h. rw (in-development s i l h) (h, omega arith))
-    (λ l h. rw (in-middle s i l h) (h, omega arith))
-    (λ l h. rw (in-late s i l h) (h, omega arith))
-    (λ l. absurd (omega (arith, d .to)))
+-- A stage ends within the season.
+pub left-within : (s : Season) (i : ℕ) → Ranged s → i ≤ seasonDays s → i + slopeOf s i .left ≤ seasonDays s
+left-within s i r to =
+    by-stage s i r to
+    (λ kc l k e. rw (slope-in s i to, e .here constant sloping) (e .within))
+    (λ kp kn l k e. rw (slope-in s i to, e .here constant sloping) (e .within))

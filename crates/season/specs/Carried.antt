@@ -5,9 +5,9 @@ use mathlib.Core.Path.{_≡_}
 use Prim.Native.Nat.{ℕ, zero, suc, _+_, _-_, _*_, _/_, min}
 use lib.Dec.{leb}
 use Rattle.season.specs.Calendar.{monthDays}
-use Rattle.season.specs.Sheet.{DayOf}
+use Rattle.season.specs.Sheet.{DayOf, seasonDays}
 use Rattle.season.specs.Rules.{ramp}
-use Rattle.season.specs.Day.{dateOf, etoIn, effectiveIn, cropNeed}
+use Rattle.season.specs.Day.{dateOf, inStage, etoIn, effectiveIn, cropNeed}
 use Rattle.season.specs.declared.Season.{Season}
 use Rattle.season.specs.declared.Date.{Date}
 use Rattle.season.specs.declared.SeasonDay.{SeasonDay}
@@ -24,22 +24,16 @@ reciprocal d = scale / d + 1
 abbrev pub scaled : ℕ → ℕ → ℕ
 scaled x i = x * i / scale
 
--- A stage of one coefficient, and day k of a stage of L days that goes from Kp to Kn; both up to the day `last`.
-abbrev pub constant : ℕ → ℕ → Slope
-constant last kc = record { top = kc; bottom = 1; up = 0; down = 0; last = last }
+-- Day k of a stage of L days: with one coefficient, and from Kp to Kn.
+abbrev pub constant : ℕ → ℕ → ℕ → Slope
+constant kc l k = record { top = kc; bottom = 1; up = 0; down = 0; left = l - k }
 
-abbrev pub sloping : ℕ → ℕ → ℕ → ℕ → ℕ → Slope
-sloping last kp kn l k = record { top = ramp kp kn l k; bottom = l; up = kn; down = kp; last = last }
+abbrev pub sloping : ℕ → ℕ → ℕ → ℕ → Slope
+sloping kp kn l k = record { top = ramp kp kn l k; bottom = l; up = kn; down = kp; left = l - k }
 
--- The stage of day i. Past the season there is none.
+-- The slope on day i. Past the season there is no stage.
 unfoldable pub slopeOf : Season → ℕ → Slope
-slopeOf s i =
-    cond (leb i (s .initial)) (constant (s .initial) (s .kcini))
-    (cond (leb i (s .initial + s .development)) (sloping (s .initial + s .development) (s .kcini) (s .kcmid) (s .development) (i - s .initial))
-    (cond (leb i (s .initial + s .development + s .middle)) (constant (s .initial + s .development + s .middle) (s .kcmid))
-    (cond (leb i (s .initial + s .development + s .middle + s .late))
-    (sloping (s .initial + s .development + s .middle + s .late) (s .kcmid) (s .kcend) (s .late) (i - (s .initial + s .development + s .middle)))
-    (constant (s .initial + s .development + s .middle + s .late) 0))))
+slopeOf s i = cond (leb i (seasonDays s)) (inStage constant sloping s i) (constant 0 0 0)
 
 -- What the roots grow, times the reciprocal of G.
 abbrev pub growthPerDay : Season → ℕ
@@ -56,7 +50,7 @@ onDate s i t =
       day = t .day;
       length = monthDays (t .month);
       effective = effectiveIn s (t .month);
-      left = min (monthDays (t .month) - t .day) (slopeOf s i .last - i);
+      left = min (monthDays (t .month) - t .day) (slopeOf s i .left);
       top = etoIn s (t .month) * slopeOf s i .top + 50 * slopeOf s i .bottom;
       up = etoIn s (t .month) * slopeOf s i .up;
       down = etoIn s (t .month) * slopeOf s i .down;

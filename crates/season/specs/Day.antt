@@ -17,13 +17,19 @@ dateOf s i = daysOn (dateIs (s .month) (s .first)) (i - 1)
 abbrev pub ratio : ℕ → ℕ → Kc
 ratio t b = record { top = t; bottom = b }
 
+-- The stage of day i, which is day k of the stage's L days. Initial: Kc ini; mid: Kc mid. Development goes from Kc ini to Kc mid, late from
+-- Kc mid to Kc end. `level kc l k` and `slope kp kn l k` are what is made of these numbers.
+unfoldable pub inStage : {A : Type 0} → (ℕ → ℕ → ℕ → A) → (ℕ → ℕ → ℕ → ℕ → A) → Season → ℕ → A
+inStage level slope s i =
+    cond (leb i (s .initial)) (level (s .kcini) (s .initial) i)
+    (cond (leb i (s .initial + s .development)) (slope (s .kcini) (s .kcmid) (s .development) (i - s .initial))
+    (cond (leb i (s .initial + s .development + s .middle)) (level (s .kcmid) (s .middle) (i - (s .initial + s .development)))
+    (slope (s .kcmid) (s .kcend) (s .late) (i - (s .initial + s .development + s .middle)))))
+
 -- Kc in hundredths, as a fraction: nothing is rounded here.
 unfoldable pub kcOf : Season → ℕ → Kc
-kcOf s i =
-    cond (leb i (s .initial)) (ratio (s .kcini) 1)
-    (cond (leb i (s .initial + s .development)) (ratio (ramp (s .kcini) (s .kcmid) (s .development) (i - s .initial)) (s .development))
-    (cond (leb i (s .initial + s .development + s .middle)) (ratio (s .kcmid) 1)
-    (ratio (ramp (s .kcmid) (s .kcend) (s .late) (i - (s .initial + s .development + s .middle))) (s .late))))
+unfolding inStage
+kcOf = inStage (λ kc l k. ratio kc 1) (λ kp kn l k. ratio (ramp kp kn l k) l)
 
 -- ETo and the effective rain of a calendar month.
 abbrev pub etoIn : Season → ℕ → ℕ

@@ -46,7 +46,7 @@ fn on_date(s: Season, number: u32, date: Date, growth: u64) -> SeasonDay
         day: date.day,
         length,
         effective,
-        left: min(length - date.day, saturating_sub(slope.last, number)),
+        left: min(length - date.day, slope.left),
         top: eto * slope.top + 50 * slope.bottom,
         up: eto * slope.up,
         down: eto * slope.down,

@@ -22,34 +22,35 @@ fn ramp_of(before: u32, after: u32, days: u32, day: u32) -> u32
     sum as u32
 }
 
-// A stage of one coefficient.
-fn constant_to(last: u32, kc: u32) -> Slope
-    ensures { λ r. ⌜ r ≡ constant last kc ⌝ }
+// Day k of a stage of L days with one coefficient.
+fn constant_on(kc: u32, days: u32, day: u32) -> Slope
+    requires { ⌜ day ≤ days ⌝ }
+    ensures { λ r. ⌜ r ≡ constant kc days day ⌝ }
 {
     Slope {
         top: kc,
         bottom: 1,
         up: 0,
         down: 0,
-        last,
+        left: days - day,
     }
 }
 
 // Day k of a stage of L days that goes from Kp to Kn.
-fn sloping_to(last: u32, before: u32, after: u32, days: u32, day: u32) -> Slope
+fn sloping_on(before: u32, after: u32, days: u32, day: u32) -> Slope
     requires { ⌜ (before ≤ 200) × (after ≤ 200) × (days ≤ 200) × (day ≤ days) ⌝ }
-    ensures { λ r. ⌜ r ≡ sloping last before after days day ⌝ }
+    ensures { λ r. ⌜ r ≡ sloping before after days day ⌝ }
 {
     Slope {
         top: ramp_of(before, after, days, day),
         bottom: days,
         up: after,
         down: before,
-        last,
+        left: days - day,
     }
 }
 
-// The stage of a day. Past the season there is none, and no day to go on to.
+// The slope on a day. Past the season there is no stage, and no day to go on to.
 pub fn slope_of(s: Season, day: u32) -> Slope
     requires { ⌜ Ranged s ⌝ }
     ensures { λ r. ⌜ r ≡ slopeOf s day ⌝ }
@@ -57,20 +58,19 @@ pub fn slope_of(s: Season, day: u32) -> Slope
     let sown = s.initial;
     let grown = sown + s.development;
     let ripe = grown + s.middle;
-    let end = ripe + s.late;
     if day <= sown {
-        return constant_to(sown, s.kcini);
+        return constant_on(s.kcini, s.initial, day);
     }
     if day <= grown {
-        return sloping_to(grown, s.kcini, s.kcmid, s.development, day - sown);
+        return sloping_on(s.kcini, s.kcmid, s.development, day - sown);
     }
     if day <= ripe {
-        return constant_to(ripe, s.kcmid);
+        return constant_on(s.kcmid, s.middle, day - grown);
     }
-    if day <= end {
-        return sloping_to(end, s.kcmid, s.kcend, s.late, day - ripe);
+    if day <= ripe + s.late {
+        return sloping_on(s.kcmid, s.kcend, s.late, day - ripe);
     }
-    constant_to(end, 0)
+    constant_on(0, 0, 0)
 }
 
 pub fn kc_of(s: Season, day: u32) -> Kc

@@ -57,13 +57,13 @@ pub struct Date {
     pub day: u32,
 }
 
-// Kc within one stage: `top` / `bottom` on a day, `up` less `down` more over the same bottom on the next, up to the day `last`.
+// Kc within one stage: `top` / `bottom` on a day, and `up` less `down` more over the same bottom on each of the `left` days after it.
 struct Slope {
     top: u32,
     bottom: u32,
     up: u32,
     down: u32,
-    last: u32,
+    left: u32,
 }
 
 // A season day as it is carried from day to day, so that neither a walk over the year nor a division is made for each: its number, its

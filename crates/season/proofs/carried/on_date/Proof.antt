@@ -39,66 +39,63 @@ slope-of-requires c κs = search needs
 sub-min : tie.Need-sub-min
 sub-min c = search needs
 
-saturating-sub-requires : tie.Need-saturating-sub-requires
-saturating-sub-requires c κs = search needs
-
 min-requires : tie.Need-min-requires
 min-requires c κs = search needs
+
+mul-t19 : tie.Need-mul-t19
+mul-t19 c =
+    let at-slope-of = c .before .before .before in
+    let start = at-slope-of .before .before .before .before .before .before in
+    record { fits = rw (at-slope-of .slope-of .ensures) (omega (arith, weighed (start .args .s) (start .args .number) (start .args .date .month) (start .pre .0 .ranges), slope-small (start .args .s) (start .args .number) (start .pre .0 .ranges) .few)) }
 
 mul-t20 : tie.Need-mul-t20
 mul-t20 c =
     let at-slope-of = c .before .before .before .before in
     let start = at-slope-of .before .before .before .before .before .before in
-    record { fits = rw (at-slope-of .slope-of .ensures) (omega (arith, weighed (start .args .s) (start .args .number) (start .args .date .month) (start .pre .0 .ranges), slope-small (start .args .s) (start .args .number) (start .pre .0 .ranges) .few)) }
-
-mul-t21 : tie.Need-mul-t21
-mul-t21 c =
-    let at-slope-of = c .before .before .before .before .before in
-    let start = at-slope-of .before .before .before .before .before .before in
     record { fits = rw (at-slope-of .slope-of .ensures) (omega (arith, slope-small (start .args .s) (start .args .number) (start .pre .0 .ranges) .few)) }
 
-add-t22 : tie.Need-add-t22
-add-t22 c =
-    let at-slope-of = c .before .before .before .before .before in
+add-t21 : tie.Need-add-t21
+add-t21 c =
+    let at-slope-of = c .before .before .before .before in
     let start = at-slope-of .before .before .before .before .before .before in
     record { fits = rw (at-slope-of .slope-of .ensures) (omega (arith, weighed (start .args .s) (start .args .number) (start .args .date .month) (start .pre .0 .ranges), slope-small (start .args .s) (start .args .number) (start .pre .0 .ranges) .few)) }
+
+mul-t22 : tie.Need-mul-t22
+mul-t22 c =
+    let at-slope-of = c .before .before .before .before .before in
+    let start = at-slope-of .before .before .before .before .before .before in
+    record { fits = rw (at-slope-of .slope-of .ensures) (omega (arith, up-weighed (start .args .s) (start .args .number) (start .args .date .month) (start .pre .0 .ranges))) }
 
 mul-t23 : tie.Need-mul-t23
 mul-t23 c =
     let at-slope-of = c .before .before .before .before .before .before in
     let start = at-slope-of .before .before .before .before .before .before in
-    record { fits = rw (at-slope-of .slope-of .ensures) (omega (arith, up-weighed (start .args .s) (start .args .number) (start .args .date .month) (start .pre .0 .ranges))) }
-
-mul-t24 : tie.Need-mul-t24
-mul-t24 c =
-    let at-slope-of = c .before .before .before .before .before .before .before in
-    let start = at-slope-of .before .before .before .before .before .before in
     record { fits = rw (at-slope-of .slope-of .ensures) (omega (arith, down-weighed (start .args .s) (start .args .number) (start .args .date .month) (start .pre .0 .ranges))) }
 
 mul-reciprocal-of : tie.Need-mul-reciprocal-of
 mul-reciprocal-of c =
-    let at-slope-of = c .before .before .before .before .before .before .before .before in
+    let at-slope-of = c .before .before .before .before .before .before .before in
     let start = at-slope-of .before .before .before .before .before .before in
     record { fits = rw (at-slope-of .slope-of .ensures) (omega (arith, slope-small (start .args .s) (start .args .number) (start .pre .0 .ranges) .few)) }
 
 reciprocal-of-requires : tie.Need-reciprocal-of-requires
 reciprocal-of-requires c κs =
-    let at-slope-of = c .before .before .before .before .before .before .before .before in
+    let at-slope-of = c .before .before .before .before .before .before .before in
     let start = at-slope-of .before .before .before .before .before .before in
     rw (at-slope-of .slope-of .ensures) (omega (arith, slope-small (start .args .s) (start .args .number) (start .pre .0 .ranges) .some))
 
-cast-t27 : tie.Need-cast-t27
-cast-t27 c = search needs
+cast-t26 : tie.Need-cast-t26
+cast-t26 c = search needs
 
 reciprocal-of-requires-2 : tie.Need-reciprocal-of-requires-2
 reciprocal-of-requires-2 c κs =
-    let at-month-days = c .before .before .before .before .before .before .before .before .before .before .before .before .before in
+    let at-month-days = c .before .before .before .before .before .before .before .before .before .before .before .before in
     let start = at-month-days .before .before in
     rw (at-month-days .month-days .ensures) (omega (arith, days-low (start .args .date .month) (start .pre .1 .0 .month-low) (start .pre .1 .0 .month-high)))
 
-mul-t29 : tie.Need-mul-t29
-mul-t29 c =
-    let at-effective-rain = c .before .before .before .before .before .before .before .before .before .before .before in
+mul-t28 : tie.Need-mul-t28
+mul-t28 c =
+    let at-effective-rain = c .before .before .before .before .before .before .before .before .before .before in
     let at-month-days = at-effective-rain .before .before .before in
     let start = at-month-days .before .before in
     record { fits = rw (at-effective-rain .effective-rain .ensures, c .reciprocal-of2 .ensures, at-month-days .month-days .ensures) (rain-per-day-small _ _ (effective-le _ (start .pre .0 .ranges .rain _)) (days-low (start .args .date .month) (start .pre .1 .0 .month-low) (start .pre .1 .0 .month-high))) }
@@ -107,12 +104,11 @@ returns : tie.Need-returns
 returns c =
     let at-reciprocal-of = c .before in
     let at-min = at-reciprocal-of .before .before .before .before .before .before in
-    let at-saturating-sub = at-min .before in
-    let at-slope-of = at-saturating-sub .before .before in
+    let at-slope-of = at-min .before .before in
     let at-effective-rain = at-slope-of .before in
     let at-month-days = at-effective-rain .before .before .before in
     let start = at-month-days .before .before in
-    rw (c .reciprocal-of2 .ensures, at-reciprocal-of .reciprocal-of .ensures, at-min .min .ensures, at-saturating-sub .saturating-sub .ensures, at-slope-of .slope-of .ensures, at-effective-rain .effective-rain .ensures, at-month-days .month-days .ensures, start .pre .1 .1)
+    rw (c .reciprocal-of2 .ensures, at-reciprocal-of .reciprocal-of .ensures, at-min .min .ensures, at-slope-of .slope-of .ensures, at-effective-rain .effective-rain .ensures, at-month-days .month-days .ensures, start .pre .1 .1)
 
 pub on-date-spec : {M : Type 1} → statement M
 on-date-spec =
@@ -128,16 +124,15 @@ on-date-spec =
     effective-rain-requires
     slope-of-requires
     sub-min
-    saturating-sub-requires
     min-requires
+    mul-t19
     mul-t20
-    mul-t21
-    add-t22
+    add-t21
+    mul-t22
     mul-t23
-    mul-t24
     mul-reciprocal-of
     reciprocal-of-requires
-    cast-t27
+    cast-t26
     reciprocal-of-requires-2
-    mul-t29
+    mul-t28
     returns)
