@@ -11,7 +11,7 @@ use native.Mathlib.Omega.{arith}
 use borrow.Author.Tests.{lt-ltb, le-ltb, eq-eqb, ne-eqb}
 use lib.Dec.{eqb, lit<}
 use lib.ListN.{length, take, drop, getD, length-take, length-drop}
-use lib.Seq.{getD-drop}
+use lib.Seq.{getD-drop, take-append-le}
 use lib.Pow.{pow-mono, pow-add, shr-lt}
 use lib.Count.{leadingZeros, leading-top}
 use Rattle.leb128.specs.declared.Number.{Number}
@@ -259,14 +259,6 @@ decode-small bytes v k h e =
 
 -- ---- three bytes are enough
 
--- what follows three bytes does not matter
-pub decode-more : (xs ys : List ℕ) → 3 ≤ length xs → decode (xs ++ ys) ≡ decode xs
-unfolding decode decodeFrom below
-decode-more [] ys h = absurd (omega arith)
-decode-more (a ∷ []) ys h = absurd (omega arith)
-decode-more (a ∷ b ∷ []) ys h = absurd (omega arith)
-decode-more (a ∷ b ∷ c ∷ xs) ys h = refl
-
 -- the first three say all, at the start and at a place
 pub decode-three : (xs : List ℕ) → 2 < length xs → decode (getD xs 0 0 ∷ getD xs 1 0 ∷ getD xs 2 0 ∷ []) ≡ decode xs
 unfolding decode decodeFrom below
@@ -281,17 +273,23 @@ decode-three-at at xs h =
     let z : at + 0 ≡ at = omega arith in
     rw (getD-drop at xs 0 0, getD-drop at xs 1 0, getD-drop at xs 2 0, z) at (decode-three (drop at xs) (omega (arith, length-drop at xs)))
 
-decode-first : (xs : List ℕ) → decode (take 3 xs) ≡ decode xs
+pub decode-first : (xs : List ℕ) → decode (take 3 xs) ≡ decode xs
 unfolding decode decodeFrom below
 decode-first [] = refl
 decode-first (a ∷ []) = refl
 decode-first (a ∷ b ∷ []) = refl
 decode-first (a ∷ b ∷ c ∷ xs) = refl
 
+-- what follows three bytes does not matter
+pub decode-more : (xs ys : List ℕ) → 3 ≤ length xs → decode (xs ++ ys) ≡ decode xs
+decode-more xs ys h = sym (decode-first (xs ++ ys)) ∙ ap decode (take-append-le 3 xs ys h) ∙ decode-first xs
+
+-- what is read or refused lies in the first three
+pub reach-few : (xs : List ℕ) → reach (decode xs) ≤ 3
+reach-few xs = omega (arith, rw (decode-first xs) at (reach-le (take 3 xs)), length-take 3 xs)
+
 pub few-bytes : (xs : List ℕ) (v k : ℕ) → decode xs ≡ Whole v k → k ≤ 3
-few-bytes xs v k e =
-    let r : k ≤ length (take 3 xs) = rw (decode-first xs ∙ e) at (reach-le (take 3 xs)) in
-    omega (arith, length-take 3 xs)
+few-bytes xs v k e = rw e at (reach-few xs)
 
 bad-short : (p : ℕ) → Bad p ≡ Short → ⊥
 bad-short p e = let z : _≡_ {A = ℕ} 0 1 = cc in omega arith

@@ -4,16 +4,19 @@ use mathlib.Core.List.{List, [], _∷_}
 use mathlib.Core.Bool.{true, false}
 use lib.Dec.{ltb}
 
--- Recursion over the groups of n: `last n` where n is below 128, so that it is its own last group, and else `more n` of what the number
--- without its lowest group gives. The third argument bounds how many groups there can be.
-unfoldable pub overIn : {A : Type 0} → (ℕ → A) → (ℕ → A → A) → ℕ → ℕ → A
-overIn last more zero n = last n
-overIn last more (suc fuel) n = elim (ltb n 128) [ true ↦ last n | false ↦ more n (overIn last more fuel (n / 128)) ]
+-- Recursion over the digits of n in a base: `last n` where n is below the base, so that it is its own last digit, and else `more n` of what
+-- the number without its lowest digit gives. The number before n bounds how many digits there can be.
+unfoldable pub overIn : {A : Type 0} → ℕ → (ℕ → A) → (ℕ → A → A) → ℕ → ℕ → A
+overIn base last more zero n = last n
+overIn base last more (suc fuel) n = elim (ltb n base) [ true ↦ last n | false ↦ more n (overIn base last more fuel (n / base)) ]
 
--- A number n has no more than n groups, or one.
+-- A number n has no more than n digits, or one.
+abbrev pub overDigits : {A : Type 0} → ℕ → (ℕ → A) → (ℕ → A → A) → ℕ → A
+overDigits base last more n = overIn base last more n n
+
+-- A group is a digit in base 128.
 unfoldable pub overGroups : {A : Type 0} → (ℕ → A) → (ℕ → A → A) → ℕ → A
-unfolding overIn
-overGroups last more n = overIn last more n n
+overGroups = overDigits 128
 
 -- The bytes of n: each group with 128 added, but the last as it is.
 unfoldable pub encode : ℕ → List ℕ

@@ -15,7 +15,7 @@ use Rattle.sheet.specs.Fields.{outside, lowestOutside}
 use Rattle.sheet.specs.Sheets.{fieldsVerdict, sheetOf}
 use Rattle.sheet.proofs.Start as start
 use Rattle.controller.specs.Calls.{onSheet}
-use Rattle.printed.specs.Text.{decimalIn, decimal, ending, cells, printed}
+use Rattle.printed.specs.Text.{decimal, ending, cells, printed}
 use Rattle.printed.specs.Cases.{edges}
 use Rattle.printed.specs.Claims.{Claims}
 
@@ -24,5 +24,5 @@ unfolding onSheet
 first-bytes-decide t y h = rw (start.first-bytes-decide t y h)
 
 pub claims : Claims
-unfolding encode overGroups overIn decode decodeFrom below ramp rampZ nextDay daysOn dateOf kcOf cropNeed rainOn orRefused dayRow withDay rowsTo six flat before numbers ended numbersRead written outside lowestOutside fieldsVerdict sheetOf decimalIn decimal ending cells onSheet edges
+unfolding encode overGroups overIn decode decodeFrom below ramp rampZ nextDay daysOn dateOf kcOf cropNeed rainOn orRefused dayRow withDay rowsTo six flat before numbers ended numbersRead written outside lowestOutside fieldsVerdict sheetOf decimal ending cells onSheet edges
 claims = record { first-bytes-decide = first-bytes-decide; edges-hold = refl }

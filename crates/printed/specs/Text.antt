@@ -1,20 +1,16 @@
 -- Document 01, 'Decade table': the rows as the program prints them.
-use Prim.Native.Nat.{ℕ, zero, suc, _+_, _/_, _%_}
-use mathlib.Core.Bool.{true, false, cond}
+use Prim.Native.Nat.{ℕ, _+_, _%_}
+use mathlib.Core.Bool.{cond}
 use mathlib.Core.List.{List, [], _∷_, _++_}
-use lib.Dec.{ltb, eqb}
+use lib.Dec.{eqb}
 use lib.ListN.{length, drop}
+use Rattle.leb128.specs.Groups.{overDigits}
 use Rattle.decades.specs.Table.{table}
 use Rattle.controller.specs.Calls.{onSheet}
 
--- A number's decimal digits, the first argument being no less than their count less one.
-unfoldable pub decimalIn : ℕ → ℕ → List ℕ
-decimalIn zero n = (48 + n) ∷ []
-decimalIn (suc fuel) n = elim (ltb n 10) [ true ↦ (48 + n) ∷ [] | false ↦ decimalIn fuel (n / 10) ++ ((48 + n % 10) ∷ []) ]
-
+-- A number's decimal digits, the highest first.
 unfoldable pub decimal : ℕ → List ℕ
-unfolding decimalIn
-decimal n = decimalIn n n
+decimal = overDigits 10 (λ n. (48 + n) ∷ []) (λ n digits. digits ++ ((48 + n % 10) ∷ []))
 
 -- A number and the byte that ends it.
 abbrev pub cell : ℕ → ℕ → List ℕ
