@@ -30,7 +30,7 @@ pub fn open(sheet: &[u8], area: &[u8]) -> Opening
 }
 
 // An entry call on a sheet's bytes.
-fn record(sheet: &[u8], area: &[u8], e: Entry) -> Recorded
+pub fn record(sheet: &[u8], area: &[u8], e: Entry) -> Recorded
     ensures { λ r. ⌜ r ≡ sheetRecorded (now (sheet .entry)) (now (area .entry)) e ⌝ }
 {
     let read = sheet::read(sheet);

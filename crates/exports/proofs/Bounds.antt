@@ -1,17 +1,17 @@
 -- No place, count or number returned with a refusal passes 8,192. Forty numbers of at most three bytes: a sheet's faults lie in its first
 -- 120, and one that ends too soon is shorter than that, so refusal 1's length is small though a sheet may be long.
 use Prim.Native.Nat.{ℕ, zero, suc, _+_, _*_, _≤_}
-use mathlib.Core.Path.{_≡_, refl, ap, _∙_}
+use mathlib.Core.Path.{_≡_, refl, ap}
 use mathlib.Core.Bool.{Bool, true, false, cond}
 use mathlib.Core.List.{List, [], _∷_, _++_}
 use native.Mathlib.Omega.{arith}
-use borrow.Author.Tests.{leb-true, ltb-false}
-use lib.Dec.{leb, ltb, eqb}
-use lib.ListN.{length, drop, take, getD, length-drop, length-take}
+use borrow.Author.Tests.{ltb-false}
+use lib.Dec.{ltb, eqb}
+use lib.ListN.{length, drop, take, getD, length-append, length-drop}
 use Rattle.leb128.specs.declared.Number.{Number}
 use Rattle.leb128.specs.declared.Number.the-variants.{Whole, Short, Bad}
-use Rattle.leb128.specs.Forms.{decode, decodeFrom, below}
-use Rattle.leb128.proofs.Laws.{few-bytes, short-few, reach-le}
+use Rattle.leb128.specs.Forms.{decode}
+use Rattle.leb128.proofs.Laws.{few-bytes, short-few, reach-few}
 use Rattle.season.specs.declared.Season.{Season}
 use Rattle.season.specs.Day.{AcceptedSeason}
 use Rattle.verdict.specs.declared.Verdict.{Verdict}
@@ -22,6 +22,7 @@ use Rattle.sheet.specs.Fields.{limits, outside, lowestOutside, seasonOf}
 use Rattle.sheet.specs.Sheets.{fieldAtFault, fieldsVerdict, onlyAccepted, sheetOf}
 use Rattle.sheet.specs.Sheets as sheets
 use Rattle.season.specs.Sheet.{seasonDays}
+use Rattle.season.proofs.Whole.{by-order}
 use Rattle.journal.specs.declared.Entry.{Entry}
 use Rattle.journal.specs.declared.Ledger.{Ledger}
 use Rattle.journal.specs.declared.Stores.{Stores}
@@ -29,11 +30,13 @@ use Rattle.journal.specs.declared.Recorded.{Recorded}
 use Rattle.journal.specs.declared.Mended.{Mended}
 use Rattle.journal.specs.declared.Opening.{Opening}
 use Rattle.journal.specs.declared.Opening.the-variants as found
-use Rattle.journal.specs.Entries.{waiting, refusal}
-use Rattle.journal.specs.Opening.{replayed, tornAt, trim, isBlank, behind, opening}
+use Rattle.journal.specs.Entries.{waiting, start, refusal}
+use Rattle.journal.specs.Opening.{opening}
+use Rattle.journal.specs.Specified.{bytesAll, Says}
+use Rattle.journal.specs.Specified as said
 use Rattle.journal.specs.Calls.{storesOf, noStores, recordedWith, recordedOn, recorded, wipePlaces, notMended, mendedOn, mended}
 use Rattle.journal.specs.Claims.{StoresOccur}
-use Rattle.journal.proofs.Sums.{replayed-place}
+use Rattle.journal.proofs.Claims as journal
 use Rattle.planner.specs.declared.Planned.{Planned}
 use Rattle.planner.specs.declared.Planned.the-variants as planned
 use Rattle.planner.specs.Plan.{Plan, depths, refused, plan}
@@ -51,19 +54,6 @@ use Rattle.controller.proofs.Claims.{claims}
 use Rattle.exports.specs.Small.{SmallVerdict, SmallOpening, SmallRecorded, SmallMended, SmallPlanned, SmallTabled}
 
 -- ---- the sheet
-
-first-three : (xs : List ℕ) → decode (take 3 xs) ≡ decode xs
-unfolding decode decodeFrom below
-first-three [] = refl
-first-three (a ∷ []) = refl
-first-three (a ∷ b ∷ []) = refl
-first-three (a ∷ b ∷ c ∷ xs) = refl
-
--- An offending byte is one of the first three.
-bad-few : (xs : List ℕ) (p : ℕ) → decode xs ≡ Bad p → p ≤ 2
-bad-few xs p e =
-    let r : p + 1 ≤ length (take 3 xs) = rw (first-three xs ∙ e) at (reach-le (take 3 xs)) in
-    omega (arith, length-take 3 xs)
 
 -- Each number takes at most three bytes, and what is refused stands in the bytes of the number at fault.
 abbrev Ends : ℕ → Run → Type 0
@@ -84,7 +74,7 @@ numbers-end (suc count) at most s h = read (λ n m. numbers-end count (at + n) m
         → Ends most (elim d [ Whole v n ↦ before v (numbers count (at + n) s) | Short ↦ stop 1 (length s) | Bad p ↦ stop 2 (at + p) ])
     read f (Whole v n) e = before-ends most v (numbers count (at + n) s) (f n (few-bytes (drop at s) v n e))
     read f Short e = omega (arith, length-drop at s, short-few (drop at s) e)
-    read f (Bad p) e = omega (arith, bad-few (drop at s) p e)
+    read f (Bad p) e = omega (arith, rw e at (reach-few (drop at s)))
 
 ended-small : (s : List ℕ) (r : Run) → Ends 120 r → SmallVerdict (ended s r .verdict)
 unfolding ended
@@ -135,46 +125,24 @@ refused-small b number value e = rw e at (sheet-small b)
 
 -- ---- the journal
 
--- An answer's places, by its case.
-pub clean-small : (o : Opening) (l : Ledger) → SmallOpening o → o ≡ found.Clean l → l .place ≤ 8192
-clean-small o l h e = rw e at h
-
-pub torn-small : (o : Opening) (l : Ledger) (place : ℕ) → SmallOpening o → o ≡ found.Torn l place → (l .place ≤ 8192) × (place ≤ 8192)
-torn-small o l place h e = rw e at h
-
-pub damaged-small : (o : Opening) (number value : ℕ) → SmallOpening o → o ≡ found.Refused number value → value ≤ 8192
-damaged-small o number value h e = rw e at h
-
-pub verdict-small : (v : Verdict) (number value : ℕ) → SmallVerdict v → v ≡ Refused number value → value ≤ 8192
-verdict-small v number value h e = rw e at h
-
 -- What holds in each case of an opening holds of it: a place is the ledger's, which lies in the area.
-opening-by : (s : Season) (area : List ℕ) (P : Opening → Type 0) → P (found.Refused 8 0)
-    → (length area ≤ 8192 → (l : Ledger) → l .place ≤ length area → P (found.Clean l))
-    → (length area ≤ 8192 → (l : Ledger) → l .place ≤ length area → P (found.Torn l (l .place)))
-    → (length area ≤ 8192 → (l : Ledger) → l .place ≤ length area → P (found.Refused 9 (l .place))) → P (opening s area)
-unfolding opening behind
-opening-by s area P long clean torn damaged = size (leb (length area) 8192) refl
-  where
-    l : Ledger
-    l = replayed s area .ledger
+module _ (s : Season) (area : List ℕ) (P : Opening → Type 0) (long : P (found.Refused 8 0))
+    (clean : length area ≤ 8192 → (l : Ledger) → l .place ≤ length area → P (found.Clean l))
+    (torn : length area ≤ 8192 → (l : Ledger) → l .place ≤ length area → P (found.Torn l (l .place)))
+    (damaged : length area ≤ 8192 → (l : Ledger) → l .place ≤ length area → P (found.Refused 9 (l .place))) where
+  by-tail : {l : Ledger} {bytes : List ℕ} {o : Opening} → length area ≤ 8192 → l .place ≤ length area → Says (seasonDays s) (length area) l bytes o → P o
+  by-tail {l} h i (said.clean m e) = clean h l i
+  by-tail {l} h i (said.torn t) = torn h l i
+  by-tail {l} h i (said.damaged n t) = damaged h l i
 
-    rest : List ℕ
-    rest = replayed s area .rest
-
-    part : (b : Bool) → length area ≤ 8192 → P (elim b [ true ↦ found.Torn l (l .place) | false ↦ found.Refused 9 (l .place) ])
-    part true h = torn h l (replayed-place s area)
-    part false h = damaged h l (replayed-place s area)
-
-    tail : (b : Bool) → length area ≤ 8192
-        → P (elim b [ true ↦ found.Clean l | false ↦ elim (tornAt (seasonDays s) (length area) l (trim rest)) [ true ↦ found.Torn l (l .place) | false ↦ found.Refused 9 (l .place) ] ])
-    tail true h = clean h l (replayed-place s area)
-    tail false h = part (tornAt (seasonDays s) (length area) l (trim rest)) h
-
-    size : (b : Bool) → leb (length area) 8192 ≡ b
-        → P (elim b [ true ↦ behind (seasonDays s) (length area) (replayed s area .ledger) (replayed s area .rest) | false ↦ found.Refused 8 0 ])
-    size true e = tail (isBlank rest) (leb-true (length area) 8192 e)
-    size false e = long
+  opening-by : P (opening s area)
+  opening-by =
+      by-order (length area) 8193
+      (λ h. rw (journal.claims .opening-refuses s area (omega arith)) long)
+      (λ h.
+      let o = journal.claims .opening-says s area (omega arith) in
+      let run = bytesAll s (start s) (o .run .entries) in
+      by-tail (omega arith) (omega (arith, o .place, ap length (o .run .is), length-append run (o .found .rest))) (o .says))
 
 pub opened-small : (sheet area : List ℕ) → SmallOpening (sheetOpened sheet area)
 opened-small sheet area =
@@ -278,15 +246,6 @@ mended-small sheet area =
     record { verdict = w .verdict; count = omega (arith, claims .mended-occurs sheet area .0 .few); places = w .places }
 
 -- ---- plan and table
-
-pub planned-refused-small : (p : Planned) (number value : ℕ) → SmallPlanned p → p ≡ planned.Refused number value → value ≤ 8192
-planned-refused-small p number value h e = rw e at h
-
-pub rows-small : (t : Tabled) (count : ℕ) → SmallTabled t → t ≡ table.Rows count → count ≤ 8192
-rows-small t count h e = rw e at h
-
-pub tabled-refused-small : (t : Tabled) (number value : ℕ) → SmallTabled t → t ≡ table.Refused number value → value ≤ 8192
-tabled-refused-small t number value h e = rw e at h
 
 module _ (s : Season) (sown : AcceptedSeason s) (out : List ℕ) where
   -- Refusal 16 carries a season day.

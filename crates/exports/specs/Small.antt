@@ -1,4 +1,4 @@
--- What the functions inside ask of an answer: no place, count or number returned with a refusal passes 8,192, so each fits 32 bits.
+-- No place, count or number returned with a refusal passes 8,192, so each fits 32 bits.
 use Prim.Native.Nat.{ℕ, _≤_}
 use lib.ListN.{getD}
 use Rattle.verdict.specs.declared.Verdict.{Verdict}

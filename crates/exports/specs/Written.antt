@@ -1,7 +1,7 @@
 -- The numbers that an exported call writes for C and Rust: document 01's number (0 accepted or clean, 10 torn, else the refusal), the number
 -- returned with it, then the answer. An opening, a plan and a table have the numbering that stands beside them.
 use Prim.Native.Nat.{ℕ}
-use mathlib.Core.List.{List, [], _∷_}
+use mathlib.Core.List.{List, _∷_}
 use lib.Seq.{sets}
 use Rattle.verdict.specs.Refusals.{numbersThen}
 use Rattle.journal.specs.declared.Recorded.{Recorded}

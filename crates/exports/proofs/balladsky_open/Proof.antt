@@ -1,25 +1,72 @@
--- What the controller answers is written; its places are small.
-use mathlib.Core.Path.{ap, _∙_}
-use denote.Ref.{now}
-use borrow.Author.Needs.{needs}
-use Rattle.journal.specs.declared.Opening.{Opening}
+-- By the opening's case: two numbers and the ledger's, or the refusal.
+use native.Mathlib.Omega.{arith}
 use Rattle.journal.specs.Opening.{numbersOf}
-use Rattle.exports.specs.Written.{writtenOver}
+use Rattle.exports.specs.Small.{SmallOpening}
+use Rattle.exports.proofs.Over.{holds-by, written-by}
 use Rattle.exports.proofs.Bounds.{opened-small}
+use borrow.Author.Needs.{needs}
 use Rattle.exports.proofs.balladsky_open.Statement.{statement}
 use Rattle.exports.proofs.balladsky_open.Tie as tie
 
 open-requires : tie.Need-open-requires
 open-requires c κs = search needs
 
-put-opening-requires : tie.Need-put-opening-requires
-put-opening-requires c κs = rw (c .«open» .ensures) (opened-small _ _)
+enum-known-l : tie.Need-enum-known-l
+enum-known-l c = search needs
+
+put-ledger-requires : tie.Need-put-ledger-requires
+put-ledger-requires c κs =
+    let at-l = c .before .before in
+    let at-open = at-l .before .before in
+    (omega arith, holds-by (at-l .l .given .1) (at-open .«open» .ensures) SmallOpening (opened-small _ _))
+
+enum-known-l-2 : tie.Need-enum-known-l-2
+enum-known-l-2 c = search needs
+
+put-ledger-requires-2 : tie.Need-put-ledger-requires-2
+put-ledger-requires-2 c κs =
+    let at-l2 = c .before .before in
+    let at-open = at-l2 .before .before in
+    let small = holds-by (at-l2 .l2 .given .1) (at-open .«open» .ensures) SmallOpening (opened-small _ _) in (small .1, small .0)
+
+enum-known-number : tie.Need-enum-known-number
+enum-known-number c = search needs
+
+put-refusal-requires : tie.Need-put-refusal-requires
+put-refusal-requires c κs =
+    let at-number = c .before .before in
+    let at-open = at-number .before .before in
+    holds-by (at-number .number .given .1) (at-open .«open» .ensures) SmallOpening (opened-small _ _)
 
 returns : tie.Need-returns
 returns c =
-    let at-open = c .before in
-    let start = at-open .before .before .before .before in
-    c .put-opening .ensures ∙ ap (λ (o : Opening). writtenOver (numbersOf o) (now (start .args .out))) (at-open .«open» .ensures)
+    let at-l = c .before .before .before in
+    let at-open = at-l .before .before in
+    written-by (at-l .l .given .1) (at-open .«open» .ensures) numbersOf _ (c .put-ledger .ensures)
+
+returns-2 : tie.Need-returns-2
+returns-2 c =
+    let at-l2 = c .before .before .before in
+    let at-open = at-l2 .before .before in
+    written-by (at-l2 .l2 .given .1) (at-open .«open» .ensures) numbersOf _ (c .put-ledger2 .ensures)
+
+returns-3 : tie.Need-returns-3
+returns-3 c =
+    let at-number = c .before .before .before in
+    let at-open = at-number .before .before in
+    written-by (at-number .number .given .1) (at-open .«open» .ensures) numbersOf _ (c .put-refusal .ensures)
 
 pub balladsky-open-spec : {M : Type 1} → statement M
-balladsky-open-spec = tie.close (tie.spec open-requires put-opening-requires returns)
+balladsky-open-spec =
+    tie.close
+    (tie.spec
+    open-requires
+    enum-known-l
+    put-ledger-requires
+    enum-known-l-2
+    put-ledger-requires-2
+    enum-known-number
+    put-refusal-requires
+    returns
+    returns-2
+    returns-3)

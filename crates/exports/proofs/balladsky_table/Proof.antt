@@ -1,10 +1,11 @@
--- What the controller answers is written; its numbers are small.
+-- By the answer's case: the rows' count, or the refusal; beside it the lent buffer.
 use Prim.Native.Nat.{ℕ}
 use mathlib.Core.Path.{ap}
 use mathlib.Core.List.{List}
-use denote.Ref.{now}
 use Rattle.decades.specs.declared.Tabled.{Tabled}
-use Rattle.exports.proofs.Over.{tabled-written}
+use Rattle.decades.specs.Table.{numbersOf}
+use Rattle.exports.specs.Small.{SmallTabled}
+use Rattle.exports.proofs.Over.{holds-by, both-by}
 use Rattle.exports.proofs.Bounds.{tabled-small}
 use borrow.Author.Needs.{needs}
 use Rattle.exports.proofs.balladsky_table.Statement.{statement}
@@ -13,19 +14,52 @@ use Rattle.exports.proofs.balladsky_table.Tie as tie
 table-requires : tie.Need-table-requires
 table-requires c κs = search needs
 
-put-tabled-requires : tie.Need-put-tabled-requires
-put-tabled-requires c κs =
-    let at-call = c .before .before in
-    rw (ap (λ (a : Tabled × List ℕ). a .0) (at-call .table .ensures)) (tabled-small _ _)
+enum-known-count : tie.Need-enum-known-count
+enum-known-count c = search needs
+
+put-rows-requires : tie.Need-put-rows-requires
+put-rows-requires c κs =
+    let at-count = c .before .before in
+    let at-table = at-count .before .before .before .before in
+    holds-by (at-count .count .given .1) (ap (λ (a : Tabled × List ℕ). a .0) (at-table .table .ensures)) SmallTabled (tabled-small _ _)
+
+enum-known-number : tie.Need-enum-known-number
+enum-known-number c = search needs
+
+put-refusal-requires : tie.Need-put-refusal-requires
+put-refusal-requires c κs =
+    let at-number = c .before .before in
+    let at-table = at-number .before .before .before .before in
+    holds-by (at-number .number .given .1) (ap (λ (a : Tabled × List ℕ). a .0) (at-table .table .ensures)) SmallTabled (tabled-small _ _)
 
 same-length : tie.Need-same-length
 same-length c = search needs
 
 returns : tie.Need-returns
 returns c =
-    let at-call = c .before .before .before in
-    let start = at-call .before .before .before .before .before in
-    tabled-written (now (start .args .out)) (at-call .table .ensures) (c .put-tabled .ensures)
+    let at-count = c .before .before .before in
+    let at-table = at-count .before .before .before .before in
+    both-by numbersOf _ (at-count .count .given .1) (at-table .table .ensures) (c .put-rows .ensures)
+
+same-length-2 : tie.Need-same-length-2
+same-length-2 c = search needs
+
+returns-2 : tie.Need-returns-2
+returns-2 c =
+    let at-number = c .before .before .before in
+    let at-table = at-number .before .before .before .before in
+    both-by numbersOf _ (at-number .number .given .1) (at-table .table .ensures) (c .put-refusal .ensures)
 
 pub balladsky-table-spec : {M : Type 1} → statement M
-balladsky-table-spec = tie.close (tie.spec table-requires put-tabled-requires same-length returns)
+balladsky-table-spec =
+    tie.close
+    (tie.spec
+    table-requires
+    enum-known-count
+    put-rows-requires
+    enum-known-number
+    put-refusal-requires
+    same-length
+    returns
+    same-length-2
+    returns-2)

@@ -1,0 +1,64 @@
+-- By the verdict: the stores, or the refusal.
+use Prim.Native.Nat.{ℕ}
+use mathlib.Core.Path.{ap, _∙_}
+use mathlib.Core.List.{List, _∷_}
+use denote.Ref.{now}
+use Rattle.journal.specs.Claims.{RecordedOccurs}
+use Rattle.controller.proofs.Claims.{claims}
+use Rattle.exports.specs.Written.{writtenOver, recordedOut}
+use Rattle.exports.specs.Small.{SmallRecorded}
+use Rattle.exports.proofs.Over.{holds-by, written-by, entry-case, four-are}
+use Rattle.exports.proofs.Bounds.{recorded-small}
+use borrow.Author.Needs.{needs}
+use Rattle.exports.proofs.put_entry.Statement.{statement}
+use Rattle.exports.proofs.put_entry.Tie as tie
+
+record-requires : tie.Need-record-requires
+record-requires c κs = search needs
+
+enum-told : tie.Need-enum-told
+enum-told c = search needs
+
+put-stores-requires : tie.Need-put-stores-requires
+put-stores-requires c κs =
+    let at-enum-told = c .before in
+    let at-record = at-enum-told .before .before .before .before in
+    let small = holds-by (entry-case _ (at-enum-told .enum-told .given .1)) (at-record .«record» .ensures) SmallRecorded (recorded-small _ _ _) in (small .start, small .count)
+
+enum-known-verdict : tie.Need-enum-known-verdict
+enum-known-verdict c = search needs
+
+put-refusal-requires : tie.Need-put-refusal-requires
+put-refusal-requires c κs =
+    let at-verdict = c .before .before in
+    let at-record = at-verdict .before .before .before .before in
+    holds-by (entry-case _ (at-verdict .verdict .given .1)) (at-record .«record» .ensures) SmallRecorded (recorded-small _ _ _) .verdict
+
+returns : tie.Need-returns
+returns c =
+    let at-enum-told = c .before .before in
+    let at-record = at-enum-told .before .before .before .before in
+    let start = at-record .before .before .before in
+    let w = at-record .«record» .result .stores in
+    let case = entry-case _ (at-enum-told .enum-told .given .1) in
+    let four = holds-by case (at-record .«record» .ensures) RecordedOccurs (claims .recorded-occurs _ _ _) .four in
+    written-by case (at-record .«record» .ensures) recordedOut _
+    (c .put-stores .ensures ∙ ap (λ (bs : List ℕ). writtenOver (0 ∷ 0 ∷ w .start ∷ w .count ∷ bs) (now (start .args .out))) (four-are (w .bytes) four))
+
+returns-2 : tie.Need-returns-2
+returns-2 c =
+    let at-verdict = c .before .before .before in
+    let at-record = at-verdict .before .before .before .before in
+    written-by (entry-case _ (at-verdict .verdict .given .1)) (at-record .«record» .ensures) recordedOut _ (c .put-refusal .ensures)
+
+pub put-entry-spec : {M : Type 1} → statement M
+put-entry-spec =
+    tie.close
+    (tie.spec
+    record-requires
+    enum-told
+    put-stores-requires
+    enum-known-verdict
+    put-refusal-requires
+    returns
+    returns-2)
