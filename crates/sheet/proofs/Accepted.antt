@@ -101,4 +101,4 @@ is-accepted b e = go (numbersRead b .verdict) refl (fieldsVerdict (numbersRead b
 pub accepted-season : (b : List ℕ) → sheetOf b .verdict ≡ Accepted → AcceptedSeason (sheetOf b .season)
 accepted-season b e =
     let a = is-accepted b e in
-    rw (a .sheet) (accepted-sound (numbersRead b .fields) (a .count) (a .verdict) .sown)
+    rw (a .sheet) (accepted-sound (numbersRead b .fields) (a .count) (a .verdict) .season)

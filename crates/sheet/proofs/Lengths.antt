@@ -98,4 +98,4 @@ accepted-length b bytes e =
     let f = numbersRead b .fields in
     let s = accepted-sound f (a .count) (a .verdict) in
     let l : length b ≡ length (written f) = ap (λ (t : List ℕ). length t) (a .as-written bytes) in
-    (omega (arith, l, written-at-least f, a .count), omega (arith, l, written-at-most f (a .count) (s .no-field) (s .sown .valid .year)))
+    (omega (arith, l, written-at-least f, a .count), omega (arith, l, written-at-most f (a .count) (s .no-field) (s .season .valid .year)))

@@ -37,7 +37,7 @@ chain f s n t v₅ v₆ v₇ z a b d e₅ e₆ e₇ =
 -- What an accepted list of forty numbers is.
 pub record Sound (f : List ℕ) : Type 0 where
   pub no-field : fieldAtFault f ≡ 0
-  pub sown : AcceptedSeason (seasonOf f)
+  pub season : AcceptedSeason (seasonOf f)
 
 pub accepted-sound : (f : List ℕ) → length f ≡ 40 → fieldsVerdict f ≡ Accepted → Sound f
 unfolding fieldsVerdict
@@ -50,7 +50,7 @@ accepted-sound f n e =
     let z : fieldAtFault f ≡ 0 = omega (arith, ltb-false 0 (fieldAtFault f) (a4 .0)) in
     record {
       no-field = z;
-      sown = record {
+      season = record {
         valid = record { ranges = season-ranged f n z; year = ltb-false _ _ (a5 .0); roots = ltb-false _ _ (a6 .0) };
         opens = ltb-false _ _ (a7 .0);
       };
