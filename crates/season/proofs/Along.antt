@@ -1,20 +1,25 @@
 -- Within a month and a stage a season day is carried on by sums alone.
 use mathlib.Core.Path.{_≡_, refl, sym, _∙_, ap, subst}
 use Prim.Native.Nat.{ℕ, zero, suc, _+_, _-_, _*_, _≤_, _<_}
-use native.Mathlib.Nat.{mul-add, add-mul, suc-mul}
+use native.Mathlib.Nat.{suc-mul}
 use native.Mathlib.Numerals.{add-one}
 use native.Mathlib.Omega.{arith}
+use lib.IntN.{ℤ, pos, natAbs, _+ℤ_, _*ℤ_}
+use mir.Syntax.{w32}
+use mir.Val.{toZ, ofZ}
 use Rattle.season.specs.declared.Season.{Season}
 use Rattle.season.specs.declared.Date.{Date}
 use Rattle.season.specs.declared.SeasonDay.{SeasonDay}
 use Rattle.season.specs.Calendar.{monthDays, dateIs}
 use Rattle.season.specs.Sheet.{Ranged, Valid, DayOf, seasonDays}
-use Rattle.season.specs.Carried.{reciprocal, scaled, slopeOf, needsAfter, onDate, dayOf, OnDay}
+use Rattle.season.specs.Carried.{reciprocal, scaled, risen, raised, Raising, slopeOf, needsAfter, onDate, dayOf, OnDay}
 use Rattle.season.specs.Day.{etoIn, dateOf, cropNeed}
 use Rattle.season.proofs.Calendar.{next-in, days-high}
+use Rattle.season.proofs.Raised.{risen-none, risen-more, risen-weighed, raised-more, raised-level}
+use Rattle.season.proofs.Whole.{small-back}
 use Rattle.season.proofs.Slopes.{slope-next, left-within}
 use Rattle.season.proofs.Laws.{product}
-use Rattle.season.proofs.Bounds.{date-proper, need-le, up-weighed, down-weighed}
+use Rattle.season.proofs.Bounds.{date-proper, need-le, rise-weighed}
 use Rattle.season.proofs.Days.{date-next, on-day, on-number, top-small, need-is, need-fits}
 
 -- b is k days after a, in its month and stage.
@@ -25,9 +30,8 @@ pub record Along (k : ℕ) (a b : SeasonDay) : Type 0 where
   pub length : b .length ≡ a .length
   pub effective : b .effective ≡ a .effective
   pub left : b .left + k ≡ a .left
-  pub top : b .top + k * a .down ≡ a .top + k * a .up
-  pub up : b .up ≡ a .up
-  pub down : b .down ≡ a .down
+  pub top : pos (b .top) ≡ risen (a .top) (a .rise) k
+  pub rise : b .rise ≡ a .rise
   pub reciprocal : b .reciprocal ≡ a .reciprocal
   pub «rain_per_day» : b .«rain_per_day» ≡ a .«rain_per_day»
   pub «growth_per_day» : b .«growth_per_day» ≡ a .«growth_per_day»
@@ -40,9 +44,8 @@ along-none a b e = rw e (record {
   length = refl;
   effective = refl;
   left = omega arith;
-  top = omega arith;
-  up = refl;
-  down = refl;
+  top = risen-none (a .top) (a .rise);
+  rise = refl;
   reciprocal = refl;
   «rain_per_day» = refl;
   «growth_per_day» = refl;
@@ -57,9 +60,8 @@ along-more k a b c p q = record {
   length = q .length ∙ p .length;
   effective = q .effective ∙ p .effective;
   left = omega (arith, p .left, q .left);
-  top = omega (arith, p .top, q .top, p .up, p .down, add-mul k 1 (a .down), add-mul k 1 (a .up));
-  up = q .up ∙ p .up;
-  down = q .down ∙ p .down;
+  top = q .top ∙ ap (λ (z : ℤ). pos (b .top) +ℤ pos 1 *ℤ z) (p .rise) ∙ ap (λ (z : ℤ). z +ℤ pos 1 *ℤ a .rise) (p .top) ∙ risen-more (pos (a .top)) (a .rise) k 1;
+  rise = q .rise ∙ p .rise;
   reciprocal = q .reciprocal ∙ p .reciprocal;
   «rain_per_day» = q .«rain_per_day» ∙ p .«rain_per_day»;
   «growth_per_day» = q .«growth_per_day» ∙ p .«growth_per_day»;
@@ -79,9 +81,8 @@ on-dates s i t r to h m =
       length = refl;
       effective = refl;
       left = omega (arith, n .left);
-      top = omega (arith, n .bottom, ap (λ (x : ℕ). e * x) (n .top), mul-add e (b .top) (a .down), mul-add e (a .top) (a .up));
-      up = ap (λ (x : ℕ). e * x) (n .up);
-      down = ap (λ (x : ℕ). e * x) (n .down);
+      top = ap (λ (x : ℕ). pos (e * b .top + 50 * x)) (n .bottom) ∙ risen-weighed e (50 * a .bottom) (a .top) (b .top) (a .rise) (n .top);
+      rise = ap (λ (z : ℤ). pos e *ℤ z) (n .rise);
       reciprocal = ap (λ (x : ℕ). reciprocal (100 * x)) (n .bottom);
       «rain_per_day» = refl;
       «growth_per_day» = refl;
@@ -116,9 +117,9 @@ module _ {s : Season} {t : SeasonDay} (v : Valid s) (o : OnDay s t) (k : ℕ) (h
       let l : k ≤ dayOf s (t .number) .left = rw (← (ap (λ (d : SeasonDay). d .left) (o .is))) h in
       subst (λ (d : SeasonDay). Along k d (dayOf s (t .number + k))) (sym (o .is)) (along-days s (v .ranges) (t .number) k (o .of) l)
 
-  -- `top` does not go below zero
-  pub along-top : k * t .down ≤ t .top + k * t .up
-  along-top = omega (arith, along .top)
+  pub along-raised : raised (t .top) (t .rise) k ≡ dayOf s (t .number + k) .top
+  unfolding raised
+  along-raised = ap natAbs (sym (along .top))
 
   pub along-is : record {
     number = t .number + k;
@@ -127,9 +128,8 @@ module _ {s : Season} {t : SeasonDay} (v : Valid s) (o : OnDay s t) (k : ℕ) (h
     length = t .length;
     effective = t .effective;
     left = t .left - k;
-    top = t .top + k * t .up - k * t .down;
-    up = t .up;
-    down = t .down;
+    top = raised (t .top) (t .rise) k;
+    rise = t .rise;
     reciprocal = t .reciprocal;
     «rain_per_day» = t .«rain_per_day»;
     «growth_per_day» = t .«growth_per_day»;
@@ -138,7 +138,6 @@ module _ {s : Season} {t : SeasonDay} (v : Valid s) (o : OnDay s t) (k : ℕ) (h
       let a = along in
       let d = dayOf s (t .number + k) in
       let left : d .left ≡ t .left - k = omega (arith, a .left) in
-      let top : d .top ≡ t .top + k * t .up - k * t .down = omega (arith, a .top) in
       λ i. record {
         number = sym (a .number) i;
         month = sym (a .month) i;
@@ -146,13 +145,19 @@ module _ {s : Season} {t : SeasonDay} (v : Valid s) (o : OnDay s t) (k : ℕ) (h
         length = sym (a .length) i;
         effective = sym (a .effective) i;
         left = sym left i;
-        top = sym top i;
-        up = sym (a .up) i;
-        down = sym (a .down) i;
+        top = along-raised i;
+        rise = sym (a .rise) i;
         reciprocal = sym (a .reciprocal) i;
         «rain_per_day» = sym (a .«rain_per_day») i;
         «growth_per_day» = sym (a .«growth_per_day») i;
       }
+
+  -- A day of the stretch is a day of the season.
+  pub along-on : OnDay s (dayOf s (t .number + k))
+  unfolding dayOf
+  along-on =
+      let l : k ≤ dayOf s (t .number) .left = rw (← (ap (λ (d : SeasonDay). d .left) (o .is))) h in
+      on-day s _ (t .number + k) (record { from = omega (arith, o .of .from); to = omega (arith, l, days-within s (v .ranges) (t .number) (o .of)) }) refl
 
 module _ {s : Season} {t : SeasonDay} (v : Valid s) (o : OnDay s t) where
   pub left-few : t .left ≤ 30
@@ -161,103 +166,97 @@ module _ {s : Season} {t : SeasonDay} (v : Valid s) (o : OnDay s t) where
       let p = date-proper s (t .number) v in
       rw (ap (λ (d : SeasonDay). d .left) (o .is)) (omega (arith, p .day-low, days-high _ (p .month-low) (p .month-high)))
 
-  module _ (k : ℕ) (h : k ≤ t .left) where
-    pub grows-by : (k * t .up ≤ 9000000) × (k * t .down ≤ 9000000)
-    unfolding dayOf
-    grows-by =
-        let few : k ≤ 30 = omega (arith, left-few) in (
-          rw (ap (λ (d : SeasonDay). d .up) (o .is)) (product k _ 30 300000 few (up-weighed s (t .number) _ (v .ranges))),
-          rw (ap (λ (d : SeasonDay). d .down) (o .is)) (product k _ 30 300000 few (down-weighed s (t .number) _ (v .ranges))),
-        )
+  rise-small : natAbs (t .rise) ≤ 300000
+  unfolding dayOf
+  rise-small = rw (ap (λ (d : SeasonDay). d .rise) (o .is)) (rise-weighed s (t .number) _ (v .ranges))
+
+  pub rise-back : toZ w32 (ofZ w32 (t .rise)) ≡ t .rise
+  rise-back = small-back (t .rise) (omega (arith, rise-small))
+
+  -- the machine's test
+  pub no-rise : ofZ w32 (t .rise) ≡ 0 → t .rise ≡ pos 0
+  no-rise e = sym rise-back ∙ ap (toZ w32) e
+
+  -- The top is never negative on the days of the stretch.
+  pub raising : (k : ℕ) → k ≤ t .left → Raising (t .top) (t .rise) k
+  raising k h = record {
+    never-negative = ap pos (along-raised v o k h) ∙ along v o k h .top;
+    small = rw (along-raised v o k h) (omega (arith, top-small v (along-on v o k h)));
+    top-small = omega (arith, top-small v o);
+    days-small = omega (arith, left-few);
+    growth-small = omega (arith, product k (natAbs (t .rise)) 30 300000 (omega (arith, left-few)) rise-small);
+  }
 
 -- ---- the needs of the days after
 
-module _ {s : Season} {t : SeasonDay} (v : Valid s) (o : OnDay s t) where
-  -- A day of the stretch is a day of the season, and what it carries gives its need.
-  pub along-on : (k : ℕ) → k ≤ t .left → OnDay s (dayOf s (t .number + k))
-  unfolding dayOf
-  along-on k h =
-      let l : k ≤ dayOf s (t .number) .left = rw (← (ap (λ (d : SeasonDay). d .left) (o .is))) h in
-      on-day s _ (t .number + k) (record { from = omega (arith, o .of .from); to = omega (arith, l, days-within s (v .ranges) (t .number) (o .of)) }) refl
+module _ {s : Season} {t : SeasonDay} (v : Valid s) (o : OnDay s t) (k : ℕ) (h : k ≤ t .left) where
+  -- What a day of the stretch carries gives its need.
+  need-along : scaled (raised (t .top) (t .rise) k) (t .reciprocal) ≡ cropNeed s (t .number + k)
+  need-along =
+      rw (along-raised v o k h, ← (along v o k h .reciprocal)) (need-is v (along-on v o k h) ∙ ap (cropNeed s) (on-number s (t .number + k)))
 
-  module _ (k x : ℕ) (h : k ≤ t .left) (e : x + k * t .down ≡ t .top + k * t .up) where
-    top-along : x ≡ dayOf s (t .number + k) .top
-    top-along = omega (arith, e, along v o k h .top)
+  need-along-fits : raised (t .top) (t .rise) k * t .reciprocal < 18446744073709551616
+  need-along-fits = rw (along-raised v o k h, ← (along v o k h .reciprocal)) (need-fits v (along-on v o k h))
 
-    pub need-along : scaled x (t .reciprocal) ≡ cropNeed s (t .number + k)
-    need-along =
-        let d = on-number s (t .number + k) in
-        rw (top-along, ← (along v o k h .reciprocal)) (need-is v (along-on k h) ∙ ap (cropNeed s) d)
-
-    pub need-along-fits : x * t .reciprocal < 18446744073709551616
-    need-along-fits = rw (top-along, ← (along v o k h .reciprocal)) (need-fits v (along-on k h))
-
-  pub need-along-few : (k : ℕ) → k ≤ t .left → cropNeed s (t .number + k) ≤ 3000
-  need-along-few k h = rw (← (on-number s (t .number + k))) (need-le s _ v (along-on k h .of))
+  need-along-few : cropNeed s (t .number + k) ≤ 3000
+  need-along-few = rw (← (on-number s (t .number + k))) (need-le s _ v (along-on v o k h .of))
 
 -- The sum over k days by what is carried.
 unfoldable pub summed : SeasonDay → ℕ → ℕ
 summed t zero = 0
-summed t (suc k) = summed t k + scaled (t .top + suc k * t .up - suc k * t .down) (t .reciprocal)
+summed t (suc k) = summed t k + scaled (raised (t .top) (t .rise) (suc k)) (t .reciprocal)
 
 -- i days are summed, and `top` is that of the last of them.
 pub record Summing (t : SeasonDay) (days top sum i : ℕ) : Type 0 where
   pub few : i ≤ days
-  pub is : top + i * t .down ≡ t .top + i * t .up
+  pub is : top ≡ raised (t .top) (t .rise) i
   pub total : sum ≡ summed t i
 
 pub summing-start : (t : SeasonDay) (days : ℕ) → Summing t days (t .top) 0 0
-unfolding summed
-summing-start t days = record { few = omega arith; is = omega arith; total = refl }
+unfolding summed raised
+summing-start t days = record { few = omega arith; is = ap natAbs (risen-none (t .top) (t .rise)); total = refl }
 
 module _ {s : Season} {t : SeasonDay} (v : Valid s) (o : OnDay s t) where
   pub summed-is : (k : ℕ) → k ≤ t .left → summed t k ≡ needsAfter s (t .number) k
   unfolding summed needsAfter
   summed-is zero h = refl
-  summed-is (suc k) h =
-      let top : t .top + suc k * t .up - suc k * t .down + suc k * t .down ≡ t .top + suc k * t .up = omega (arith, along-top v o (suc k) h) in
-      let n = need-along v o (suc k) (t .top + suc k * t .up - suc k * t .down) h top in
-      omega (arith, summed-is k (omega arith), n)
+  summed-is (suc k) h = omega (arith, summed-is k (omega arith), need-along v o (suc k) h)
 
-  pub summed-few : (k : ℕ) → k ≤ t .left → summed t k ≤ 3000 * k
+  summed-few : (k : ℕ) → k ≤ t .left → summed t k ≤ 3000 * k
   unfolding summed
   summed-few zero h = omega arith
-  summed-few (suc k) h =
-      let top : t .top + suc k * t .up - suc k * t .down + suc k * t .down ≡ t .top + suc k * t .up = omega (arith, along-top v o (suc k) h) in
-      omega (arith, summed-few k (omega arith), need-along v o (suc k) _ h top, need-along-few v o (suc k) h)
+  summed-few (suc k) h = omega (arith, summed-few k (omega arith), need-along v o (suc k) h, need-along-few v o (suc k) h)
 
   -- Where the coefficient stays, so does the need.
-  pub needs-constant : t .up ≡ t .down → (k : ℕ) → k ≤ t .left → k * scaled (t .top) (t .reciprocal) ≡ needsAfter s (t .number) k
+  pub needs-constant : t .rise ≡ pos 0 → (k : ℕ) → k ≤ t .left → k * scaled (t .top) (t .reciprocal) ≡ needsAfter s (t .number) k
   unfolding needsAfter
   needs-constant e zero h = omega arith
   needs-constant e (suc k) h =
       let x = scaled (t .top) (t .reciprocal) in
-      omega (arith, needs-constant e k (omega arith), suc-mul k x, need-along v o (suc k) (t .top) h (ap (λ (n : ℕ). t .top + suc k * n) (sym e)))
+      let same : raised (t .top) (t .rise) (suc k) ≡ t .top = rw e (raised-level (t .top) (suc k)) in
+      omega (arith, needs-constant e k (omega arith), suc-mul k x, sym (ap (λ (n : ℕ). scaled n (t .reciprocal)) same) ∙ need-along v o (suc k) h)
 
   module _ {days top sum i : ℕ} (w : Summing t days top sum i) (h : days ≤ t .left) (l : i < days) where
-    -- One day more: the sum does not go below zero.
-    pub summing-top : (top + t .up ≤ 69010000) × (t .down ≤ top + t .up)
-    summing-top =
-        let g = grows-by v o (i + 1) (omega arith) in
-        (omega (arith, w .is, g, add-mul i 1 (t .up), top-small v o), omega (arith, w .is, along-top v o (i + 1) (omega arith), add-mul i 1 (t .up), add-mul i 1 (t .down)))
+    -- One day more: it is the day after the last that was summed.
+    pub summing-raising : Raising top (t .rise) 1
+    summing-raising =
+        let a = along v o i (omega arith) in
+        rw (w .is, along-raised v o i (omega arith), ← (a .rise)) (raising v (along-on v o i (omega arith)) 1 (omega (arith, a .left)))
 
-    next-top : top + t .up - t .down + (i + 1) * t .down ≡ t .top + (i + 1) * t .up
-    next-top = omega (arith, w .is, summing-top, add-mul i 1 (t .up), add-mul i 1 (t .down))
+    next-top : raised top (t .rise) 1 ≡ raised (t .top) (t .rise) (i + 1)
+    next-top = rw (w .is) (raised-more (t .top) (t .rise) i 1 (raising v o i (omega arith) .never-negative))
 
-    pub summing-fits : (top + t .up - t .down) * t .reciprocal < 18446744073709551616
-    summing-fits = need-along-fits v o (i + 1) _ (omega arith) next-top
+    pub summing-fits : raised top (t .rise) 1 * t .reciprocal < 18446744073709551616
+    summing-fits = rw next-top (need-along-fits v o (i + 1) (omega arith))
 
-    pub summing-small : sum + scaled (top + t .up - t .down) (t .reciprocal) ≤ 93000
+    pub summing-small : sum + scaled (raised top (t .rise) 1) (t .reciprocal) ≤ 93000
     summing-small =
-        omega (arith, w .total, summed-few i (omega arith), need-along v o (i + 1) _ (omega arith) next-top, need-along-few v o (i + 1) (omega arith), left-few v o)
+        rw next-top (omega (arith, w .total, summed-few i (omega arith), need-along v o (i + 1) (omega arith), need-along-few v o (i + 1) (omega arith), left-few v o))
 
-    pub summing-more : {sum′ : ℕ} → sum′ ≡ sum + scaled (top + t .up - t .down) (t .reciprocal) → Summing t days (top + t .up - t .down) sum′ (i + 1)
+    pub summing-more : {top′ sum′ : ℕ} → top′ ≡ raised top (t .rise) 1 → sum′ ≡ sum + scaled top′ (t .reciprocal) → Summing t days top′ sum′ (i + 1)
     unfolding summed
-    summing-more {sum′} e =
-        let same : t .top + (i + 1) * t .up - (i + 1) * t .down ≡ top + t .up - t .down = omega (arith, next-top) in
-        let a = add-one i in
-        record {
-          few = omega arith;
-          is = next-top;
-          total = rw (add-one, e, w .total) (ap (λ (x : ℕ). summed t i + scaled x (t .reciprocal)) (sym (ap (λ (n : ℕ). t .top + n * t .up - n * t .down) (sym a) ∙ same)));
-        }
+    summing-more e f = record {
+      few = omega arith;
+      is = e ∙ next-top;
+      total = rw (f, e, next-top, w .total, add-one);
+    }

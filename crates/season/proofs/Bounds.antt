@@ -1,8 +1,12 @@
 -- What the sheet's ranges say of the numbers made from it.
+use mathlib.Core.Path.{_≡_}
 use Prim.Native.Nat.{ℕ, _+_, _-_, _*_, _≤_, _<_, min}
 use native.Mathlib.Nat.{mul-assoc, div-le-self, div-lt-iff-lt-mul}
 use native.Mathlib.Omega.{arith}
+use lib.IntN.{pos, natAbs, _*ℤ_}
 use lib.ListN.{getD}
+use mir.Syntax.{w32}
+use mir.Val.{SFits, toZ, ofZ}
 use borrow.Author.Tests.{le-leb, lt-leb}
 use Rattle.season.specs.declared.Season.{Season}
 use Rattle.season.specs.Sheet.{Ranged, Valid, DayOf}
@@ -11,7 +15,7 @@ use Rattle.season.specs.Carried.{reciprocal, slopeOf, growthPerDay}
 use Rattle.season.specs.Calendar.{monthDays, dateIs, Proper}
 use Rattle.season.specs.Day.{rainOn, rootOn, totalOn, dateOf, etoIn, cropNeed}
 use Rattle.season.proofs.Laws.{product, part-le}
-use Rattle.season.proofs.Whole.{by-order}
+use Rattle.season.proofs.Whole.{by-order, natAbs-mul, small-fits, Times, times-fits, times-back}
 use Rattle.season.proofs.Slopes.{kc-slope, slope-small}
 use Rattle.season.proofs.Calendar.{on-proper, days-low}
 
@@ -54,11 +58,20 @@ module _ (s : Season) (i : ℕ) (m : ℕ) (r : Ranged s) where
       let k = slopeOf s i in
       omega (arith, product (etoIn s m) (k .top) 1500 (200 * k .bottom) (r .eto _) (slope-small s i r .top-le), mul-assoc 1500 200 (k .bottom))
 
-  pub up-weighed : etoIn s m * slopeOf s i .up ≤ 300000
-  up-weighed = product _ _ 1500 200 (r .eto _) (slope-small s i r .up-le)
+  rise-few : natAbs (slopeOf s i .rise) < 2147483648
+  rise-few = omega (arith, slope-small s i r .rise-le)
 
-  pub down-weighed : etoIn s m * slopeOf s i .down ≤ 300000
-  down-weighed = product _ _ 1500 200 (r .eto _) (slope-small s i r .down-le)
+  rise-product : etoIn s m * natAbs (slopeOf s i .rise) ≤ 300000
+  rise-product = product _ _ 1500 200 (r .eto _) (slope-small s i r .rise-le)
+
+  pub rise-weighed : natAbs (pos (etoIn s m) *ℤ slopeOf s i .rise) ≤ 300000
+  rise-weighed = rw (natAbs-mul (etoIn s m) (slopeOf s i .rise)) rise-product
+
+  pub rise-weighed-fits : SFits w32 (Times (etoIn s m) (slopeOf s i .rise))
+  rise-weighed-fits = times-fits (etoIn s m) (slopeOf s i .rise) (small-fits _ rise-few) (omega (arith, r .eto (m - 1))) (omega (arith, rise-product))
+
+  pub rise-weighed-back : toZ w32 (ofZ w32 (Times (etoIn s m) (slopeOf s i .rise))) ≡ pos (etoIn s m) *ℤ slopeOf s i .rise
+  rise-weighed-back = times-back (etoIn s m) (slopeOf s i .rise) (small-fits _ rise-few) (omega (arith, r .eto (m - 1))) (omega (arith, rise-product))
 
 pub need-le : (s : Season) (i : ℕ) → Valid s → DayOf s i → cropNeed s i ≤ 3000
 unfolding cropNeed

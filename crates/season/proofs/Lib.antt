@@ -2,6 +2,7 @@ pub mod Each
 pub mod Whole
 pub mod Laws
 pub mod Reciprocal
+pub mod Raised
 pub mod Ramp
 pub mod Calendar
 pub mod Slopes

@@ -1,8 +1,8 @@
 -- The stages of a season: the coefficient's slope on each day, how large it is, and that it goes on to the next day of the stage.
 use mathlib.Core.Path.{_≡_, refl, _∙_, ap}
 use Prim.Native.Nat.{ℕ, _+_, _-_, _*_, _≤_, _<_}
-use native.Mathlib.Nat.{mul-add, mul-one}
 use native.Mathlib.Omega.{arith}
+use lib.IntN.{pos, natAbs, _+ℤ_}
 use borrow.Author.Tests.{le-leb, lt-leb}
 use Rattle.season.specs.declared.Season.{Season}
 use Rattle.season.specs.declared.Slope.{Slope}
@@ -10,8 +10,8 @@ use Rattle.season.specs.Sheet.{Ranged, DayOf, seasonDays}
 use Rattle.season.specs.Rules.{ramp}
 use Rattle.season.specs.Carried.{constant, sloping, slopeOf}
 use Rattle.season.specs.Day.{inStage, kcOf, ratio}
-use Rattle.season.proofs.Whole.{by-order}
-use Rattle.season.proofs.Ramp.{ramp-is, ramp-le}
+use Rattle.season.proofs.Whole.{by-order, natAbs-diff}
+use Rattle.season.proofs.Ramp.{ramp-le, ramp-next}
 
 -- The choice of the stage, in each of the four.
 module _ {A : Type 0} (level : ℕ → ℕ → ℕ → A) (slope : ℕ → ℕ → ℕ → ℕ → A) (s : Season) (i : ℕ) where
@@ -121,11 +121,10 @@ pub record Small (k : Slope) : Type 0 where
   pub some : 1 ≤ k .bottom
   pub few : k .bottom ≤ 200
   pub top-le : k .top ≤ 200 * k .bottom
-  pub up-le : k .up ≤ 200
-  pub down-le : k .down ≤ 200
+  pub rise-le : natAbs (k .rise) ≤ 200
 
 small-constant : (kc l k : ℕ) → kc ≤ 200 → Small (constant kc l k)
-small-constant kc l k h = record { some = omega arith; few = omega arith; top-le = omega arith; up-le = omega arith; down-le = omega arith }
+small-constant kc l k h = record { some = omega arith; few = omega arith; top-le = omega arith; rise-le = omega arith }
 
 pub slope-small : (s : Season) (i : ℕ) → Ranged s → Small (slopeOf s i)
 slope-small s i r =
@@ -133,32 +132,21 @@ slope-small s i r =
     (λ to. by-stage s i r to
     (λ kc l k e. rw (slope-in s i to, e .here constant sloping) (small-constant kc l k (e .kc-le)))
     (λ kp kn l k e. rw (slope-in s i to, e .here constant sloping)
-    (record { some = e .some; few = e .few; top-le = ramp-le kp kn l k 200 (e .day) (e .before-le) (e .after-le); up-le = e .after-le; down-le = e .before-le })))
+    (record { some = e .some; few = e .few; top-le = ramp-le kp kn l k 200 (e .day) (e .before-le) (e .after-le); rise-le = natAbs-diff kn kp 200 (e .after-le) (e .before-le) })))
     (λ past. rw (past-season s i past) (small-constant 0 0 0 (omega arith)))
 
--- The next day of a stage: its top is `up` less `down` more.
+-- The next day of a stage: its top is `rise` more.
 pub record Next (a b : Slope) : Type 0 where
-  pub top : b .top + a .down ≡ a .top + a .up
+  pub top : pos (b .top) ≡ pos (a .top) +ℤ a .rise
   pub bottom : b .bottom ≡ a .bottom
-  pub up : b .up ≡ a .up
-  pub down : b .down ≡ a .down
+  pub rise : b .rise ≡ a .rise
   pub left : b .left + 1 ≡ a .left
 
 next-constant : (kc l k : ℕ) → k < l → Next (constant kc l k) (constant kc l (k + 1))
-next-constant kc l k h = record { top = refl; bottom = refl; up = refl; down = refl; left = omega arith }
+next-constant kc l k h = record { top = ap pos (omega arith); bottom = refl; rise = refl; left = omega arith }
 
 next-sloping : (kp kn l k : ℕ) → k < l → Next (sloping kp kn l k) (sloping kp kn l (k + 1))
-next-sloping kp kn l k h = record {
-  top =
-      let a = ramp-is kp kn l k (omega arith) in
-      let b = ramp-is kp kn l (k + 1) (omega arith) in
-      let e : l - k ≡ l - (k + 1) + 1 = omega arith in
-      omega (arith, a, b, ap (λ (n : ℕ). kp * n) e, mul-add kp (l - (k + 1)) 1, mul-add kn k 1, mul-one kp, mul-one kn);
-  bottom = refl;
-  up = refl;
-  down = refl;
-  left = omega arith;
-}
+next-sloping kp kn l k h = record { top = ramp-next kp kn l k h; bottom = refl; rise = refl; left = omega arith }
 
 pub slope-next : (s : Season) (i : ℕ) → Ranged s → i ≤ seasonDays s → 0 < slopeOf s i .left → Next (slopeOf s i) (slopeOf s (i + 1))
 slope-next s i r to =

@@ -2,8 +2,9 @@
 -- equated with its rules, whatever is carried.
 use mathlib.Core.Bool.{cond}
 use mathlib.Core.Path.{_≡_}
-use Prim.Native.Nat.{ℕ, zero, suc, _+_, _-_, _*_, _/_, min}
+use Prim.Native.Nat.{ℕ, zero, suc, _+_, _-_, _*_, _/_, _<_, min}
 use lib.Dec.{leb}
+use lib.IntN.{ℤ, pos, natAbs, _+ℤ_, _-ℤ_, _*ℤ_}
 use Rattle.season.specs.Calendar.{monthDays}
 use Rattle.season.specs.Sheet.{DayOf, seasonDays}
 use Rattle.season.specs.Rules.{ramp}
@@ -24,12 +25,27 @@ reciprocal d = scale / d + 1
 abbrev pub scaled : ℕ → ℕ → ℕ
 scaled x i = x * i / scale
 
+-- What a top comes to in k days, where `rise` may be negative; and the same as a natural number.
+abbrev pub risen : ℕ → ℤ → ℕ → ℤ
+risen top rise k = pos top +ℤ pos k *ℤ rise
+
+unfoldable pub raised : ℕ → ℤ → ℕ → ℕ
+raised top rise k = natAbs (risen top rise k)
+
+-- It is never negative, and fits 32 bits.
+pub record Raising (top : ℕ) (rise : ℤ) (k : ℕ) : Type 0 where
+  pub never-negative : pos (raised top rise k) ≡ risen top rise k
+  pub small : raised top rise k < 2147483648
+  pub top-small : top < 2147483648
+  pub days-small : k < 2147483648
+  pub growth-small : k * natAbs rise < 2147483648
+
 -- Day k of a stage of L days: with one coefficient, and from Kp to Kn.
 abbrev pub constant : ℕ → ℕ → ℕ → Slope
-constant kc l k = record { top = kc; bottom = 1; up = 0; down = 0; left = l - k }
+constant kc l k = record { top = kc; bottom = 1; rise = pos 0; left = l - k }
 
 abbrev pub sloping : ℕ → ℕ → ℕ → ℕ → Slope
-sloping kp kn l k = record { top = ramp kp kn l k; bottom = l; up = kn; down = kp; left = l - k }
+sloping kp kn l k = record { top = ramp kp kn l k; bottom = l; rise = pos kn -ℤ pos kp; left = l - k }
 
 -- The slope on day i. Past the season there is no stage.
 unfoldable pub slopeOf : Season → ℕ → Slope
@@ -40,7 +56,7 @@ abbrev pub growthPerDay : Season → ℕ
 growthPerDay s = (s .full - s .sowing) * reciprocal (s .initial + s .development)
 
 -- A season day as the code carries it from day to day: its number, its date, its month's length and effective rain; crop need as a quotient,
--- whose top grows by `up` less `down` on each of the `left` days after it in its month and stage; the reciprocal of 100 × L, the effective rain
+-- whose top grows by `rise` on each of the `left` days after it in its month and stage; the reciprocal of 100 × L, the effective rain
 -- times the reciprocal of the month's length, and what the roots grow.
 abbrev pub onDate : Season → ℕ → Date → SeasonDay
 onDate s i t =
@@ -52,8 +68,7 @@ onDate s i t =
       effective = effectiveIn s (t .month);
       left = min (monthDays (t .month) - t .day) (slopeOf s i .left);
       top = etoIn s (t .month) * slopeOf s i .top + 50 * slopeOf s i .bottom;
-      up = etoIn s (t .month) * slopeOf s i .up;
-      down = etoIn s (t .month) * slopeOf s i .down;
+      rise = pos (etoIn s (t .month)) *ℤ slopeOf s i .rise;
       reciprocal = reciprocal (100 * slopeOf s i .bottom);
       «rain_per_day» = effectiveIn s (t .month) * reciprocal (monthDays (t .month));
       «growth_per_day» = growthPerDay s;

@@ -9,6 +9,7 @@ use crate::day::effective_rain;
 use crate::day::slope_of;
 use crate::numbers::min;
 use crate::numbers::quotient;
+use crate::numbers::raised;
 use crate::numbers::reciprocal_of;
 use crate::numbers::saturating_sub;
 ghost use mathlib.Core.Path.{_≡_};
@@ -48,8 +49,7 @@ fn on_date(s: Season, number: u32, date: Date, growth: u64) -> SeasonDay
         effective,
         left: min(length - date.day, slope.left),
         top: eto * slope.top + 50 * slope.bottom,
-        up: eto * slope.up,
-        down: eto * slope.down,
+        rise: eto as i32 * slope.rise,
         reciprocal: reciprocal_of(100 * slope.bottom),
         rain_per_day: effective as u64 * reciprocal_of(length),
         growth_per_day: growth,
@@ -91,9 +91,8 @@ pub fn further_on(s: Season, t: SeasonDay, days: u32) -> SeasonDay
         length: t.length,
         effective: t.effective,
         left: t.left - days,
-        top: t.top + days * t.up - days * t.down,
-        up: t.up,
-        down: t.down,
+        top: raised(t.top, t.rise, days),
+        rise: t.rise,
         reciprocal: t.reciprocal,
         rain_per_day: t.rain_per_day,
         growth_per_day: t.growth_per_day,
@@ -119,14 +118,14 @@ pub fn need_after(s: Season, t: SeasonDay, days: u32) -> u32
     requires { ⌜ days ≤ t .left ⌝ }
     ensures { λ r. ⌜ r ≡ needsAfter s (t .number) days ⌝ }
 {
-    if t.up == t.down {
+    if t.rise == 0 {
         return days * quotient(t.top, t.reciprocal);
     }
     let mut top = t.top;
     let mut sum: u32 = 0;
     let mut i: u32 = 0;
     while i < days {
-        top = top + t.up - t.down;
+        top = raised(top, t.rise, 1);
         sum += quotient(top, t.reciprocal);
         i += 1;
     }

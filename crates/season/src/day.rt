@@ -4,23 +4,14 @@ use crate::Season;
 use crate::SeasonDay;
 use crate::Slope;
 use crate::numbers::quotient;
+use crate::numbers::raised;
 use crate::numbers::saturating_sub;
 ghost use mathlib.Core.Path.{_≡_};
 ghost use Prim.Native.Nat.{_≤_};
 ghost use Rattle.season.specs.Sheet.{Ranged, Valid, DayOf};
-ghost use Rattle.season.specs.Rules.{ramp, effectiveRain, rainTo};
+ghost use Rattle.season.specs.Rules.{effectiveRain, rainTo};
 ghost use Rattle.season.specs.Carried.{constant, sloping, slopeOf, OnDay};
 ghost use Rattle.season.specs.Day.{kcOf, cropNeed, rootOn, totalOn, readyOn};
-
-// Kp × L + k × (Kn − Kp): Kc on day k of a stage of L days, times L.
-fn ramp_of(before: u32, after: u32, days: u32, day: u32) -> u32
-    requires { ⌜ (before ≤ 200) × (after ≤ 200) × (days ≤ 200) × (day ≤ days) ⌝ }
-    ensures { λ r. ⌜ r ≡ ramp before after days day ⌝ }
-{
-    let rise = after as i32 - before as i32;
-    let sum = (before * days) as i32 + day as i32 * rise;
-    sum as u32
-}
 
 // Day k of a stage of L days with one coefficient.
 fn constant_on(kc: u32, days: u32, day: u32) -> Slope
@@ -30,22 +21,21 @@ fn constant_on(kc: u32, days: u32, day: u32) -> Slope
     Slope {
         top: kc,
         bottom: 1,
-        up: 0,
-        down: 0,
+        rise: 0,
         left: days - day,
     }
 }
 
-// Day k of a stage of L days that goes from Kp to Kn.
+// Day k of a stage of L days that goes from Kp to Kn: Kp × L + k × (Kn − Kp), over L.
 fn sloping_on(before: u32, after: u32, days: u32, day: u32) -> Slope
     requires { ⌜ (before ≤ 200) × (after ≤ 200) × (days ≤ 200) × (day ≤ days) ⌝ }
     ensures { λ r. ⌜ r ≡ sloping before after days day ⌝ }
 {
+    let rise = after as i32 - before as i32;
     Slope {
-        top: ramp_of(before, after, days, day),
+        top: raised(before * days, rise, day),
         bottom: days,
-        up: after,
-        down: before,
+        rise,
         left: days - day,
     }
 }

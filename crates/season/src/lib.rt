@@ -57,18 +57,17 @@ pub struct Date {
     pub day: u32,
 }
 
-// Kc within one stage: `top` / `bottom` on a day, and `up` less `down` more over the same bottom on each of the `left` days after it.
+// Kc within one stage: `top` / `bottom` on a day, and `rise` more over the same bottom on each of the `left` days after it.
 struct Slope {
     top: u32,
     bottom: u32,
-    up: u32,
-    down: u32,
+    rise: i32,
     left: u32,
 }
 
 // A season day as it is carried from day to day, so that neither a walk over the year nor a division is made for each: its number, its
 // date, and its month's length and effective rain. Crop need is `top` / (100 × L), where half a point is in `top`; the `left` days after
-// this one are of its month and its stage, and there `top` grows by `up` less `down` a day. Then the reciprocal of 100 × L; effective rain
+// this one are of its month and its stage, and there `top` grows by `rise` a day. Then the reciprocal of 100 × L; effective rain
 // times the reciprocal of the month's length, and what the roots grow times the reciprocal of G.
 pub struct SeasonDay {
     pub number: u32,
@@ -78,8 +77,7 @@ pub struct SeasonDay {
     pub effective: u32,
     pub left: u32,
     pub top: u32,
-    pub up: u32,
-    pub down: u32,
+    pub rise: i32,
     pub reciprocal: u64,
     pub rain_per_day: u64,
     pub growth_per_day: u64,

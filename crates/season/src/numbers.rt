@@ -1,7 +1,7 @@
 // Numbers: a difference that stops at 0, the lesser of two, and a quotient by a reciprocal.
 ghost use mathlib.Core.Path.{_≡_};
 ghost use Prim.Native.Nat.{_-_, _*_, _<_, min};
-ghost use Rattle.season.specs.Carried.{reciprocal, scaled};
+ghost use Rattle.season.specs.Carried.{reciprocal, scaled, raised, Raising};
 
 // a - b, or 0 where b is larger.
 pub fn saturating_sub(a: u32, b: u32) -> u32
@@ -33,4 +33,12 @@ pub fn quotient(x: u32, reciprocal: u64) -> u32
     ensures { λ r. ⌜ r ≡ scaled x reciprocal ⌝ }
 {
     (x as u64 * reciprocal / SCALE) as u32
+}
+
+// What a top comes to in so many days: the rise may be negative, the sum is not.
+pub fn raised(top: u32, rise: i32, days: u32) -> u32
+    requires { ⌜ Raising top rise days ⌝ }
+    ensures { λ r. ⌜ r ≡ raised top rise days ⌝ }
+{
+    (top as i32 + days as i32 * rise) as u32
 }

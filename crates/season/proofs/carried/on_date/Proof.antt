@@ -1,8 +1,9 @@
 -- Each field is what its callee ensures, or the month's number in the sheet.
+use Prim.Native.Nat.{_-_}
 use native.Mathlib.Omega.{arith}
 use Rattle.season.proofs.Calendar.{days-low}
 use Rattle.season.proofs.Slopes.{slope-small}
-use Rattle.season.proofs.Bounds.{effective-le, rain-per-day-small, weighed, up-weighed, down-weighed}
+use Rattle.season.proofs.Bounds.{effective-le, rain-per-day-small, weighed, rise-weighed-fits, rise-weighed-back}
 use borrow.Author.Needs.{needs}
 use Rattle.season.proofs.carried.on_date.Statement.{statement}
 use Rattle.season.proofs.carried.on_date.Tie as tie
@@ -60,17 +61,16 @@ add-t21 c =
     let start = at-slope-of .before .before .before .before .before .before in
     record { fits = rw (at-slope-of .slope-of .ensures) (omega (arith, weighed (start .args .s) (start .args .number) (start .args .date .month) (start .pre .0 .ranges), slope-small (start .args .s) (start .args .number) (start .pre .0 .ranges) .few)) }
 
-mul-t22 : tie.Need-mul-t22
-mul-t22 c =
-    let at-slope-of = c .before .before .before .before .before in
-    let start = at-slope-of .before .before .before .before .before .before in
-    record { fits = rw (at-slope-of .slope-of .ensures) (omega (arith, up-weighed (start .args .s) (start .args .number) (start .args .date .month) (start .pre .0 .ranges))) }
+cast-t22 : tie.Need-cast-t22
+cast-t22 c =
+    let start = c .before .before .before .before .before .before .before .before .before .before in
+    record { sfits = omega (arith, start .pre .0 .ranges .eto (start .args .date .month - 1)) }
 
 mul-t23 : tie.Need-mul-t23
 mul-t23 c =
     let at-slope-of = c .before .before .before .before .before .before in
     let start = at-slope-of .before .before .before .before .before .before in
-    record { fits = rw (at-slope-of .slope-of .ensures) (omega (arith, down-weighed (start .args .s) (start .args .number) (start .args .date .month) (start .pre .0 .ranges))) }
+    rw (at-slope-of .slope-of .ensures) (rise-weighed-fits (start .args .s) (start .args .number) (start .args .date .month) (start .pre .0 .ranges))
 
 mul-reciprocal-of : tie.Need-mul-reciprocal-of
 mul-reciprocal-of c =
@@ -108,7 +108,7 @@ returns c =
     let at-effective-rain = at-slope-of .before in
     let at-month-days = at-effective-rain .before .before .before in
     let start = at-month-days .before .before in
-    rw (c .reciprocal-of2 .ensures, at-reciprocal-of .reciprocal-of .ensures, at-min .min .ensures, at-slope-of .slope-of .ensures, at-effective-rain .effective-rain .ensures, at-month-days .month-days .ensures, start .pre .1 .1)
+    rw (c .reciprocal-of2 .ensures, at-reciprocal-of .reciprocal-of .ensures, at-min .min .ensures, at-slope-of .slope-of .ensures, at-effective-rain .effective-rain .ensures, at-month-days .month-days .ensures, start .pre .1 .1, rise-weighed-back (start .args .s) (start .args .number) (start .args .date .month) (start .pre .0 .ranges))
 
 pub on-date-spec : {M : Type 1} → statement M
 on-date-spec =
@@ -128,7 +128,7 @@ on-date-spec =
     mul-t19
     mul-t20
     add-t21
-    mul-t22
+    cast-t22
     mul-t23
     mul-reciprocal-of
     reciprocal-of-requires

@@ -1,16 +1,35 @@
--- Its top is the ramp.
+-- The sum is the ramp: what the machine's difference makes is in proofs/Ramp.antt.
+use native.Mathlib.Omega.{arith}
+use Rattle.season.proofs.Laws.{product}
+use Rattle.season.proofs.Ramp.{rise-fits, rise-back, ramp-raising, ramp-raised}
 use borrow.Author.Needs.{needs}
 use Rattle.season.proofs.day.sloping_on.Statement.{statement}
 use Rattle.season.proofs.day.sloping_on.Tie as tie
 
-ramp-of-requires : tie.Need-ramp-of-requires
-ramp-of-requires c κs = search needs
+cast-rise : tie.Need-cast-rise
+cast-rise c = search needs
 
-sub-t6 : tie.Need-sub-t6
-sub-t6 c = search needs
+cast-rise-2 : tie.Need-cast-rise-2
+cast-rise-2 c = search needs
+
+sub-rise : tie.Need-sub-rise
+sub-rise c = rise-fits (c .args .before) (c .args .after) (c .pre .0) (c .pre .1)
+
+mul-raised : tie.Need-mul-raised
+mul-raised c = record { fits = omega (arith, product (c .args .before) (c .args .days) 200 200 (c .pre .0) (c .pre .2)) }
+
+raised-requires : tie.Need-raised-requires
+raised-requires c κs =
+    ramp-raising (c .args .before) (c .args .after) (c .pre .0) (c .pre .1) (c .args .days) (c .args .day) (c .pre .2) (c .pre .3)
+
+sub-t10 : tie.Need-sub-t10
+sub-t10 c = search needs
 
 returns : tie.Need-returns
-returns c = rw (c .ramp-of .ensures)
+returns c =
+    let start = c .before in
+    rw (c .raised .ensures, ramp-raised (start .args .before) (start .args .after) (start .pre .0) (start .pre .1), rise-back (start .args .before) (start .args .after) (start .pre .0) (start .pre .1))
 
 pub sloping-on-spec : {M : Type 1} → statement M
-sloping-on-spec = tie.close (tie.spec ramp-of-requires sub-t6 returns)
+sloping-on-spec =
+    tie.close (tie.spec cast-rise cast-rise-2 sub-rise mul-raised raised-requires sub-t10 returns)
