@@ -1,7 +1,7 @@
 -- What the sheet's ranges say of the numbers made from it.
-use mathlib.Core.Path.{_≡_}
-use Prim.Native.Nat.{ℕ, _+_, _-_, _*_, _≤_, _<_, min}
-use native.Mathlib.Nat.{mul-assoc, div-le-self, div-lt-iff-lt-mul}
+use mathlib.Core.Path.{_≡_, sym, _∙_, ap}
+use Prim.Native.Nat.{ℕ, _+_, _-_, _*_, _/_, _≤_, _<_, min}
+use native.Mathlib.Nat.{mul-assoc, mul-one, div-le-self, div-lt-iff-lt-mul}
 use native.Mathlib.Omega.{arith}
 use lib.IntN.{pos, natAbs, _*ℤ_}
 use lib.ListN.{getD}
@@ -14,7 +14,7 @@ use Rattle.season.specs.Rules.{effectiveRain}
 use Rattle.season.specs.Carried.{reciprocal, slopeOf, growthPerDay}
 use Rattle.season.specs.Calendar.{monthDays, dateIs, Proper}
 use Rattle.season.specs.Day.{rainOn, rootOn, totalOn, dateOf, etoIn, cropNeed}
-use Rattle.season.proofs.Laws.{product, part-le}
+use Rattle.season.proofs.Laws.{product, part-le, root-growing}
 use Rattle.season.proofs.Whole.{by-order, natAbs-mul, small-fits, Times, times-fits, times-back}
 use Rattle.season.proofs.Slopes.{kc-slope, slope-small}
 use Rattle.season.proofs.Calendar.{on-proper, days-low}
@@ -26,6 +26,13 @@ root-le s i v =
 
 pub total-le : (s : Season) (i : ℕ) → Ranged s → totalOn s i ≤ 120000
 total-le s i v = product (s .water) (rootOn s i) 400 300 (omega arith) (root-le s i v)
+
+-- on day 1 the roots have grown by one part of G, which is at least 2
+pub first-root : (s : Season) → Ranged s → s .sowing + (s .full - s .sowing) / (s .initial + s .development) ≡ rootOn s 1
+first-root s r =
+    let g = s .initial + s .development in
+    ap (λ (n : ℕ). s .sowing + n / g) (sym (mul-one (s .full - s .sowing)))
+    ∙ root-growing (s .sowing) (s .full) g 1 (omega (arith, r .initial .low≤, r .development .low≤))
 
 -- the day that a season day is stands in the calendar
 pub start-proper : (s : Season) → Valid s → Proper (dateIs (s .month) (s .first))

@@ -84,29 +84,16 @@ pub fn crop_need(s: Season, t: SeasonDay) -> u32
     quotient(t.top, t.reciprocal)
 }
 
-// Root depth Z. Roots are full grown on day G.
-fn root_depth(s: Season, day: u32) -> u32
+// T on day 1, which refusal 7 looks at. G is at least 2, so the roots have grown by one part of G.
+pub fn first_total(s: Season) -> u32
     requires { ⌜ Ranged s ⌝ }
-    ensures { λ r. ⌜ r ≡ rootOn s day ⌝ }
+    ensures { λ r. ⌜ r ≡ totalOn s 1 ⌝ }
 {
-    let growing = s.initial + s.development;
-    let growth = saturating_sub(s.full, s.sowing);
-    if growing <= day {
-        return s.sowing + growth;
-    }
-    s.sowing + growth * day / growing
+    s.water * (s.sowing + saturating_sub(s.full, s.sowing) / (s.initial + s.development))
 }
 
-// T.
-pub fn total_water(s: Season, day: u32) -> u32
-    requires { ⌜ Ranged s ⌝ }
-    ensures { λ r. ⌜ r ≡ totalOn s day ⌝ }
-{
-    s.water * root_depth(s, day)
-}
-
-// Root depth on a season day, with no division.
-fn root_on(s: Season, t: SeasonDay) -> u32
+// Root depth Z on a season day: roots are full grown on day G.
+fn root_depth(s: Season, t: SeasonDay) -> u32
     requires { ⌜ Valid s ⌝ }
     requires { ⌜ OnDay s t ⌝ }
     ensures { λ r. ⌜ r ≡ rootOn s (t .number) ⌝ }
@@ -123,7 +110,7 @@ pub fn total_on(s: Season, t: SeasonDay) -> u32
     requires { ⌜ OnDay s t ⌝ }
     ensures { λ r. ⌜ r ≡ totalOn s (t .number) ⌝ }
 {
-    s.water * root_on(s, t)
+    s.water * root_depth(s, t)
 }
 
 // R on a season day.

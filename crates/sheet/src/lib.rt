@@ -226,7 +226,7 @@ fn judge(fields: &[u32; 40]) -> Verdict
     let s = season_of(fields);
     let long = LONGEST_SEASON < season::season_days(s);
     let shrinking = s.full < s.sowing;
-    let above_total = season::total_water(s, 1) < s.opening;
+    let above_total = season::first_total(s) < s.opening;
     Verdict::Accepted
         .or_refused(long, 5, 0)
         .or_refused(shrinking, 6, 0)

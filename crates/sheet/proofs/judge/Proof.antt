@@ -40,8 +40,8 @@ ranged c =
 season-days-requires : tie.Need-season-days-requires
 season-days-requires c κs = ranged c
 
-total-water-requires : tie.Need-total-water-requires
-total-water-requires c κs = ranged (c .before .before)
+first-total-requires : tie.Need-first-total-requires
+first-total-requires c κs = ranged (c .before .before)
 
 or-refused-requires : tie.Need-or-refused-requires
 or-refused-requires c κs = search needs
@@ -59,8 +59,8 @@ returns-2 c =
     let water = first .before .before in
     let days = water .before .before in
     let of = days .before in
-    chain (of .before .before .before .args .fields .now) (of .season-of .result) (days .season-days .result) (water .total-water .result) _ _ _
-    (clear (of .before)) (of .season-of .ensures) (days .season-days .ensures) (water .total-water .ensures)
+    chain (of .before .before .before .args .fields .now) (of .season-of .result) (days .season-days .result) (water .first-total .result) _ _ _
+    (clear (of .before)) (of .season-of .ensures) (days .season-days .ensures) (water .first-total .ensures)
     (first .or-refused .ensures) (second .or-refused2 .ensures) (c .or-refused3 .ensures)
 
 pub judge-spec : {M : Type 1} → statement M
@@ -72,7 +72,7 @@ judge-spec =
     returns
     season-of-requires
     season-days-requires
-    total-water-requires
+    first-total-requires
     or-refused-requires
     or-refused-requires-2
     or-refused-requires-3

@@ -1,0 +1,38 @@
+-- The roots on day 1, times the available water.
+use native.Mathlib.Omega.{arith}
+use Rattle.season.proofs.Bounds.{root-le, total-le, first-root}
+use borrow.Author.Needs.{needs}
+use Rattle.season.proofs.day.first_total.Statement.{statement}
+use Rattle.season.proofs.day.first_total.Tie as tie
+
+saturating-sub-requires : tie.Need-saturating-sub-requires
+saturating-sub-requires c κs = search needs
+
+add-result : tie.Need-add-result
+add-result c = search needs
+
+div-result : tie.Need-div-result
+div-result c = search needs
+
+add-result-2 : tie.Need-add-result-2
+add-result-2 c =
+    let at-saturating-sub = c .before .before in
+    let start = at-saturating-sub .before in
+    record { fits = rw (at-saturating-sub .saturating-sub .ensures, first-root (start .args .s) (start .pre)) (omega (arith, root-le (start .args .s) 1 (start .pre))) }
+
+mul-result : tie.Need-mul-result
+mul-result c =
+    let at-saturating-sub = c .before .before .before in
+    let start = at-saturating-sub .before in
+    record { fits = rw (at-saturating-sub .saturating-sub .ensures, first-root (start .args .s) (start .pre)) (omega (arith, total-le (start .args .s) 1 (start .pre))) }
+
+returns : tie.Need-returns
+returns c =
+    let at-saturating-sub = c .before .before .before in
+    let start = at-saturating-sub .before in
+    rw (at-saturating-sub .saturating-sub .ensures, first-root (start .args .s) (start .pre))
+
+pub first-total-spec : {M : Type 1} → statement M
+first-total-spec =
+    tie.close
+    (tie.spec saturating-sub-requires add-result div-result add-result-2 mul-result returns)
