@@ -1,27 +1,19 @@
 // Days closed one after another, from their lines: a line that starts with '+' is a day.
 use crate::rules;
 use crate::sheets;
-use crate::text::get;
-use crate::text::get_byte;
-use crate::text::put;
 use journal::Ledger;
 use journal::Opening;
-use journal::Stores;
+use trial::get;
+use trial::put;
 
-// A sum, which stays far below the limit.
-fn plus(a: u32, b: u32) -> u32 {
-    if a < 1000000000 {
-        if b < 1000000000 {
-            return a + b;
-        }
-    }
-    a
+fn sum(a: u32, b: u32) -> u32 {
+    trial::narrow(trial::saturating_add(a as u64, b as u64))
 }
 
 // Adds to a number of a balance.
 fn add(balance: &mut [u32], at: usize, n: u32) {
-    let sum = plus(get(balance, at), n);
-    put(balance, at, sum);
+    let next = sum(get(balance, at), n);
+    put(balance, at, next);
 }
 
 // Closes a day by the rule alone, with a need, rain and irrigation of its own, total and ready water the sheet's.
@@ -31,7 +23,7 @@ pub fn close_day(sheet: &[u8], balance: &mut [u32], need: u32, rain: u32, irriga
     let t = sheets::day_numbers(sheet, get(balance, 0));
     let done = rules::close(
         get(balance, 1),
-        plus(rain, irrigation),
+        sum(rain, irrigation),
         need,
         t.total,
         t.ready,
@@ -47,29 +39,15 @@ fn add_totals(balance: &mut [u32], used: u32, percolated: u32, rain: u32, irriga
     add(balance, 5, irrigation);
 }
 
-// Does store i of so many.
-fn store_one(area: &mut [u8], s: Stores, i: usize) {
-    let bytes = s.bytes;
-    if i < s.count {
-        sheets::put_byte(area, s.start, i, get_byte(&bytes, i));
-    }
-}
-
-// Does a call's stores, in their order.
-fn store(area: &mut [u8], s: Stores) {
-    let mut i: usize = 0;
-    while i < 4 {
-        store_one(area, s, i);
-        i += 1;
-    }
-}
+// No call hands back more stores.
+const ALL: usize = 4;
 
 fn enter_rain(sheet: &[u8], area: &mut [u8], amount: u32) {
     if amount == 0 {
         return;
     }
     let r = controller::rain(sheet, area, amount);
-    store(area, r.stores);
+    trial::store(area, r, ALL);
 }
 
 fn enter_irrigation(sheet: &[u8], area: &mut [u8], amount: u32) {
@@ -77,12 +55,12 @@ fn enter_irrigation(sheet: &[u8], area: &mut [u8], amount: u32) {
         return;
     }
     let r = controller::irrigation(sheet, area, amount);
-    store(area, r.stores);
+    trial::store(area, r, ALL);
 }
 
 fn enter_close(sheet: &[u8], area: &mut [u8]) {
     let r = controller::close(sheet, area);
-    store(area, r.stores);
+    trial::store(area, r, ALL);
 }
 
 // A day by the calls: rain and irrigation where there is any, and the close.
@@ -113,23 +91,5 @@ pub fn opened(sheet: &[u8], area: &[u8], which: u32) -> u64 {
         Opening::Clean(l) => ledger_number(l, which),
         Opening::Torn(_, _) => 0,
         Opening::Refused(_, _) => 0,
-    }
-}
-
-// Every byte FF.
-pub fn blank(area: &mut [u8]) {
-    let mut i: usize = 0;
-    while i < area.len() {
-        area[i] = 255;
-        i += 1;
-    }
-}
-
-// Every number 0.
-pub fn clear(balance: &mut [u32]) {
-    let mut i: usize = 0;
-    while i < balance.len() {
-        balance[i] = 0;
-        i += 1;
     }
 }

@@ -8,16 +8,16 @@ mod rules;
 mod sheets;
 mod text;
 
-use text::get;
-use text::more;
 use text::print;
 use text::print_number;
+use trial::get;
+use trial::saturating_add;
 
 // How many figures were compared, how many of them differ for a known reason, and how many are not as they should be.
 struct Tally {
-    figures: usize,
-    known: usize,
-    wrong: usize,
+    figures: u64,
+    known: u64,
+    wrong: u64,
 }
 
 // What a line was: no figure, one that agrees, one that differs as it should, or a mismatch.
@@ -32,24 +32,49 @@ fn distance(a: u64, b: u64) -> u64 {
     if a < b { b - a } else { a - b }
 }
 
-fn counted(t: Tally, o: Outcome) -> Tally {
+fn count_of(figures: u64, known: u64, wrong: u64) -> Tally {
+    Tally {
+        figures,
+        known,
+        wrong,
+    }
+}
+
+// The count of one line.
+fn counted(o: Outcome) -> Tally {
     match o {
-        Outcome::Nothing => t,
-        Outcome::Agrees => Tally {
-            figures: more(t.figures),
-            known: t.known,
-            wrong: t.wrong,
-        },
-        Outcome::Differs => Tally {
-            figures: more(t.figures),
-            known: more(t.known),
-            wrong: t.wrong,
-        },
-        Outcome::Mismatch => Tally {
-            figures: more(t.figures),
-            known: t.known,
-            wrong: more(t.wrong),
-        },
+        Outcome::Nothing => count_of(0, 0, 0),
+        Outcome::Agrees => count_of(1, 0, 0),
+        Outcome::Differs => count_of(1, 1, 0),
+        Outcome::Mismatch => count_of(1, 0, 1),
+    }
+}
+
+impl Tally {
+    fn and(self, t: Tally) -> Tally {
+        Tally {
+            figures: saturating_add(self.figures, t.figures),
+            known: saturating_add(self.known, t.known),
+            wrong: saturating_add(self.wrong, t.wrong),
+        }
+    }
+
+    fn print(self) {
+        print(b": ");
+        print_number(self.figures);
+        print(b" figures compared, ");
+        print_number(self.known);
+        print(b" differ for a known reason, ");
+        print_number(self.wrong);
+        print(b" mismatches\n");
+    }
+
+    // Runs a group and prints its count; the count of all so far.
+    fn run(self, path: &[u8], rule: u32) -> Tally {
+        let group = read_group(path, rule);
+        print(path);
+        group.print();
+        self.and(group)
     }
 }
 
@@ -100,7 +125,7 @@ fn run_numbers(
 }
 
 fn starts_with(line: &[u8], b: u8) -> bool {
-    text::get_byte(line, 0) == b
+    trial::get_byte(line, 0) == b
 }
 
 // A line that starts with '=' is a new sheet, on which no day is closed.
@@ -119,8 +144,8 @@ fn run_line(
     }
     if starts_with(line, b'=') {
         text::read_numbers(line, fields);
-        ledger::clear(balance);
-        ledger::blank(area);
+        *balance = [0; 6];
+        *area = [255; 512];
         return Outcome::Nothing;
     }
     run_numbers(line, rule, *fields, balance, area)
@@ -130,20 +155,18 @@ fn run_text(data: &[u8], rule: u32) -> Tally {
     let mut fields = [0u32; 40];
     let mut balance = [0u32; 6];
     let mut area = [255u8; 512];
-    let mut tally = none();
+    let mut all = count_of(0, 0, 0);
     let mut at: usize = 0;
     while at < data.len() {
         let end = text::place_of(data, at, b'\n');
-        tally = counted(
-            tally,
-            run_line(&data[at..end], rule, &mut fields, &mut balance, &mut area),
-        );
+        let line = run_line(&data[at..end], rule, &mut fields, &mut balance, &mut area);
+        all = all.and(counted(line));
         if data.len() <= end {
-            return tally;
+            return all;
         }
         at = end + 1;
     }
-    tally
+    all
 }
 
 // The figures of a file, by a rule.
@@ -155,100 +178,61 @@ fn read_group(path: &[u8], rule: u32) -> Tally {
     run_text(&data[..n], rule)
 }
 
-// Runs a group and prints its count; the count of all so far.
-fn run(path: &[u8], rule: u32, before: Tally) -> Tally {
-    let group = read_group(path, rule);
-    print(path);
-    print_tally(group);
-    Tally {
-        figures: sum(before.figures, group.figures),
-        known: sum(before.known, group.known),
-        wrong: sum(before.wrong, group.wrong),
-    }
-}
-
-fn none() -> Tally {
-    Tally {
-        figures: 0,
-        known: 0,
-        wrong: 0,
-    }
-}
-
-fn sum(a: usize, b: usize) -> usize {
-    if a < 1000000 {
-        if b < 1000000 {
-            return a + b;
-        }
-    }
-    a
-}
-
-fn print_tally(t: Tally) {
-    print(b": ");
-    print_number(t.figures as u64);
-    print(b" figures compared, ");
-    print_number(t.known as u64);
-    print(b" differ for a known reason, ");
-    print_number(t.wrong as u64);
-    print(b" mismatches\n");
-}
-
 // The rules on numbers alone.
 fn run_rules(before: Tally) -> Tally {
-    let mut t = before;
-    t = run(b"effective_rain", rules::RAIN, t);
-    t = run(b"gross", rules::GROSS, t);
-    t = run(b"net", rules::NET, t);
-    run(b"stress", rules::USE, t)
+    before
+        .run(b"effective_rain", rules::RAIN)
+        .run(b"gross", rules::GROSS)
+        .run(b"net", rules::NET)
+        .run(b"stress", rules::USE)
 }
 
 // What sheets are accepted, and a season's days.
 fn run_sheets(before: Tally) -> Tally {
-    let mut t = before;
-    t = run(b"refusals", rules::REFUSAL, t);
-    t = run(b"lengths", rules::LENGTH, t);
-    run(b"dates", rules::DATE, t)
+    before
+        .run(b"refusals", rules::REFUSAL)
+        .run(b"lengths", rules::LENGTH)
+        .run(b"dates", rules::DATE)
 }
 
 // A day's numbers.
 fn run_days(before: Tally) -> Tally {
-    let mut t = before;
-    t = run(b"kc", rules::KC, t);
-    t = run(b"mean_kc", rules::MEAN_KC, t);
-    t = run(b"crop_need", rules::NEED, t);
-    t = run(b"total_water", rules::TOTAL, t);
-    t = run(b"percents", rules::PERCENT, t);
-    run(b"ready_water", rules::READY, t)
+    before
+        .run(b"kc", rules::KC)
+        .run(b"mean_kc", rules::MEAN_KC)
+        .run(b"crop_need", rules::NEED)
+        .run(b"total_water", rules::TOTAL)
+        .run(b"percents", rules::PERCENT)
+        .run(b"ready_water", rules::READY)
 }
 
 // Decade tables, intervals between waterings and daily balances as the sources print them.
 fn run_printed_seasons(before: Tally) -> Tally {
-    let mut t = before;
-    t = run(b"decade_rows", rules::ROWS, t);
-    t = run(b"decade_cells", rules::CELL, t);
-    t = run(b"decade_sums", rules::SUM, t);
-    t = run(b"intervals", rules::HELD, t);
-    run(b"daily_balances", rules::BALANCE, t)
+    before
+        .run(b"decade_rows", rules::ROWS)
+        .run(b"decade_cells", rules::CELL)
+        .run(b"decade_sums", rules::SUM)
+        .run(b"intervals", rules::HELD)
+        .run(b"daily_balances", rules::BALANCE)
 }
 
 // Whole answers by document 01's rules.
 fn run_exact_seasons(before: Tally) -> Tally {
-    let mut t = before;
-    t = run(b"season_sheets", rules::SHEET, t);
-    t = run(b"season_rows", rules::ROWS, t);
-    t = run(b"season_tables", rules::CELL, t);
-    t = run(b"season_plans", rules::PLAN, t);
-    t = run(b"season_depths", rules::DEPTH, t);
-    run(b"season_journals", rules::JOURNAL, t)
+    before
+        .run(b"season_sheets", rules::SHEET)
+        .run(b"season_rows", rules::ROWS)
+        .run(b"season_tables", rules::CELL)
+        .run(b"season_plans", rules::PLAN)
+        .run(b"season_depths", rules::DEPTH)
+        .run(b"season_journals", rules::JOURNAL)
 }
 
 fn main() {
-    let mut t = run_rules(none());
+    let mut t = run_rules(count_of(0, 0, 0));
     t = run_sheets(t);
     t = run_days(t);
     t = run_printed_seasons(t);
     t = run_exact_seasons(t);
     print(b"all");
-    print_tally(t);
+    t.print();
 }

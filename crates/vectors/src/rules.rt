@@ -2,11 +2,11 @@
 // Where a rule asks about a season, two numbers follow (a day, or a row and a column) and then places of the sheet with their values.
 use crate::ledger;
 use crate::sheets;
-use crate::text::get;
-use crate::text::get_byte;
-use crate::text::put;
 use season::DayClose;
 use season::Net;
+use trial::get;
+use trial::get_byte;
+use trial::put;
 
 // Effective rain of a month, by its rain.
 pub const RAIN: u32 = 1;
@@ -177,7 +177,7 @@ fn signed(k: usize) -> isize {
 fn of_sheet(rule: u32, sheet: &[u8], a: u32, b: u32) -> u64 {
     match rule {
         REFUSAL => sheets::refusal(sheet),
-        LENGTH => sheets::length(sheet) as u64,
+        LENGTH => sheets::day_numbers(sheet, 1).days as u64,
         KC => sheets::day_numbers(sheet, a).kc,
         NEED => rounded(sheets::day_numbers(sheet, a).need, b),
         TOTAL => sheets::day_numbers(sheet, a).total as u64,

@@ -1,13 +1,19 @@
 // A sheet from its forty numbers, and what the product says of a day of its season.
-use crate::text::get;
 use decades::Tabled;
 use planner::Planned;
 use season::Season;
+use season::SeasonDay;
+use trial::get;
+use trial::put_behind;
+use trial::saturating_add;
 use verdict::Verdict;
+ghost use Rattle.season.specs.Sheet.{Valid};
 ghost use Rattle.season.specs.Day.{AcceptedSeason};
+ghost use Rattle.season.specs.Carried.{OnDay};
 
-// A day's numbers: Kc in thousandths of a hundredth, the date as month × 100 + day, C, T and R.
+// A day's numbers: n of its season, Kc in thousandths of a hundredth, the date as month × 100 + day, C, T and R.
 pub struct DayNumbers {
+    pub days: u32,
     pub kc: u64,
     pub date: u64,
     pub need: u32,
@@ -15,33 +21,16 @@ pub struct DayNumbers {
     pub ready: u32,
 }
 
-// Writes a byte at a place behind another, if there is room.
-pub fn put_byte(bytes: &mut [u8], from: usize, behind: usize, b: u8) {
-    if from < bytes.len() {
-        if behind < bytes.len() - from {
-            bytes[from + behind] = b;
-        }
-    }
-}
-
-fn later(at: usize, count: u32) -> usize {
-    if at < 1000000 {
-        at + count as usize
-    } else {
-        at
-    }
-}
-
 // Writes a number in groups of seven bits, with zeros behind; the place after the groups.
 fn put_groups(bytes: &mut [u8], from: usize, n: u32) -> usize {
     let groups = leb128::split(n);
     let split = groups.bytes;
-    put_byte(bytes, from, 0, split[0]);
-    put_byte(bytes, from, 1, split[1]);
-    put_byte(bytes, from, 2, split[2]);
-    put_byte(bytes, from, 3, split[3]);
-    put_byte(bytes, from, 4, split[4]);
-    later(from, groups.count)
+    put_behind(bytes, from, 0, split[0]);
+    put_behind(bytes, from, 1, split[1]);
+    put_behind(bytes, from, 2, split[2]);
+    put_behind(bytes, from, 3, split[3]);
+    put_behind(bytes, from, 4, split[4]);
+    saturating_add(from as u64, groups.count as u64) as usize
 }
 
 // Writes a sheet; how many bytes it has.
@@ -73,17 +62,6 @@ pub fn refusal_code(number: u32, value: usize) -> u64 {
     }
 }
 
-// n, or 0 where the sheet is refused.
-pub fn length(sheet: &[u8]) -> u32 {
-    let read = sheet::read(sheet);
-    let season = read.season;
-    let verdict = read.verdict;
-    match verdict {
-        Verdict::Accepted => season::season_days(season),
-        Verdict::Refused(_, _) => 0,
-    }
-}
-
 fn thousandths(top: u32, bottom: u32) -> u64 {
     if bottom == 0 {
         return 0;
@@ -91,20 +69,14 @@ fn thousandths(top: u32, bottom: u32) -> u64 {
     top as u64 * 1000 / bottom as u64
 }
 
-// The numbers of a day of the season, or all 0 where it has no such day.
-pub fn season_day(s: Season, day: u32) -> DayNumbers
-    requires { ⌜ AcceptedSeason s ⌝ }
+// The numbers of a day, whose Kc is given.
+fn numbers_on(s: Season, t: SeasonDay, days: u32, kc: u64) -> DayNumbers
+    requires { ⌜ Valid s ⌝ }
+    requires { ⌜ OnDay s t ⌝ }
 {
-    if day < 1 {
-        return nothing();
-    }
-    if season::season_days(s) < day {
-        return nothing();
-    }
-    let t = season::day_of(s, day);
-    let kc = season::kc_of(s, day);
     DayNumbers {
-        kc: thousandths(kc.top, kc.bottom),
+        days,
+        kc,
         date: t.month as u64 * 100 + t.day as u64,
         need: season::crop_need(s, t),
         total: season::total_on(s, t),
@@ -112,8 +84,29 @@ pub fn season_day(s: Season, day: u32) -> DayNumbers
     }
 }
 
+// The numbers of a day of the season, or all 0 where it has no such day.
+fn season_day(s: Season, day: u32) -> DayNumbers
+    requires { ⌜ AcceptedSeason s ⌝ }
+{
+    let days = season::season_days(s);
+    if day < 1 {
+        return nothing();
+    }
+    if days < day {
+        return nothing();
+    }
+    let kc = season::kc_of(s, day);
+    numbers_on(
+        s,
+        season::day_of(s, day),
+        days,
+        thousandths(kc.top, kc.bottom),
+    )
+}
+
 fn nothing() -> DayNumbers {
     DayNumbers {
+        days: 0,
         kc: 0,
         date: 0,
         need: 0,
@@ -169,7 +162,7 @@ fn sum_of(rows: &[u32], column: u32) -> u64 {
     let mut sum: u64 = 0;
     let mut row: u32 = 1;
     while row <= 37 {
-        sum = plus(sum, get(rows, place(row, column)));
+        sum = saturating_add(sum, get(rows, place(row, column)) as u64);
         row += 1;
     }
     sum
@@ -180,15 +173,6 @@ pub fn column_sum(sheet: &[u8], column: u32) -> u64 {
     let mut rows = [0u32; 222];
     row_count(sheet, &mut rows);
     sum_of(&rows, column)
-}
-
-// Sums here stay far below the limit.
-pub fn plus(sum: u64, n: u32) -> u64 {
-    if sum < 1000000000000 {
-        sum + n as u64
-    } else {
-        sum
-    }
 }
 
 // The days before the first that no choice holds, on a blank journal; 0 where there is none.
@@ -216,32 +200,20 @@ pub fn rows(sheet: &[u8]) -> usize {
     row_count(sheet, &mut rows)
 }
 
-// The mean Kc of the days from one to another.
+// The mean Kc of the days from one to another; 0 past day 999.
 pub fn mean_kc(sheet: &[u8], from: u32, to: u32) -> u64 {
+    if 1000 <= to {
+        return 0;
+    }
     let mut sum: u64 = 0;
     let mut count: u64 = 0;
     let mut day = from;
     while day <= to {
-        sum = added(sum, day_numbers(sheet, day).kc);
-        if 1000 <= count {
-            return 0;
-        }
-        count += 1;
-        if 1000 <= day {
-            return 0;
-        }
+        sum = saturating_add(sum, day_numbers(sheet, day).kc);
+        count = saturating_add(count, 1);
         day += 1;
     }
     quotient(sum, count)
-}
-
-fn added(sum: u64, n: u64) -> u64 {
-    if sum < 1000000000000 {
-        if n < 1000000000000 {
-            return sum + n;
-        }
-    }
-    sum
 }
 
 fn quotient(n: u64, count: u64) -> u64 {

@@ -1,27 +1,9 @@
 // Lines of numbers: the data's form. A line's numbers stand before its first ';', parted by anything that is no digit; its label stands behind.
 use libc::STDOUT_FILENO;
+use trial::put;
+use trial::saturating_add;
 ghost use Prim.Native.Nat.{_≤_};
 ghost use lib.ListN.{length};
-
-// The number at a place, 0 past the end.
-pub fn get(numbers: &[u32], at: usize) -> u32 {
-    if at < numbers.len() { numbers[at] } else { 0 }
-}
-
-pub fn get_byte(bytes: &[u8], at: usize) -> u8 {
-    if at < bytes.len() { bytes[at] } else { 0 }
-}
-
-pub fn put(numbers: &mut [u32], at: usize, value: u32) {
-    if at < numbers.len() {
-        numbers[at] = value;
-    }
-}
-
-// One more; no count here comes near the limit.
-pub fn more(n: usize) -> usize {
-    if n < 1000000 { n + 1 } else { n }
-}
 
 pub fn is_digit(b: u8) -> bool {
     if b < 48 {
@@ -79,7 +61,7 @@ fn read_byte(numbers: &mut [u32], r: Reading, b: u8) -> Reading {
     if r.inside {
         put(numbers, r.count, r.value);
         return Reading {
-            count: more(r.count),
+            count: saturating_add(r.count as u64, 1) as usize,
             value: 0,
             inside: false,
         };

@@ -4,38 +4,12 @@ use borrow.Author.Needs.{needs}
 use Rattle.vectors.proofs.sheets.day_numbers.Statement.{statement}
 use Rattle.vectors.proofs.sheets.day_numbers.Tie as tie
 
-read-requires : tie.Need-read-requires
-read-requires c κs = search needs
-
-enum-told : tie.Need-enum-told
-enum-told c = search needs
-
 season-day-requires : tie.Need-season-day-requires
 season-day-requires c κs =
     let at-enum-told = c in
     let at-read = at-enum-told .before .before .before in
     read-accepted-season _ (at-read .read .result) (at-read .read .ensures) (at-enum-told .enum-told .given .1)
 
-enum-told-2 : tie.Need-enum-told-2
-enum-told-2 c = search needs
-
-nothing-requires : tie.Need-nothing-requires
-nothing-requires c κs = search needs
-
-returns : tie.Need-returns
-returns c = search needs
-
-returns-2 : tie.Need-returns-2
-returns-2 c = search needs
-
 pub day-numbers-spec : {M : Type 1} → statement M
 day-numbers-spec =
-    tie.close
-    (tie.spec
-    read-requires
-    enum-told
-    season-day-requires
-    enum-told-2
-    nothing-requires
-    returns
-    returns-2)
+    tie.close (tie.spec (search needs) (search needs) season-day-requires (search needs) (search needs) (search needs) (search needs))

@@ -12,45 +12,7 @@ Inv-loop fields bytes₀ at₀ i₀ bytes at i = (i ≤ length fields) × (lengt
 abbrev μ-loop : tie.MeasureT-loop
 μ-loop fields bytes₀ at₀ i₀ bytes at i = length fields - i
 
-loop-holds : tie.Need-loop-holds Inv-loop μ-loop
-loop-holds c = search needs
-
-mul-put-groups : tie.Need-mul-put-groups Inv-loop μ-loop
-mul-put-groups c = search needs
-
-shared-slice-read-put-groups : tie.Need-shared-slice-read-put-groups Inv-loop μ-loop
-shared-slice-read-put-groups c = search needs
-
-put-groups-requires : tie.Need-put-groups-requires Inv-loop μ-loop
-put-groups-requires c κs = search needs
-
-add-i : tie.Need-add-i Inv-loop μ-loop
-add-i c = search needs
-
-loop-less : tie.Need-loop-less Inv-loop μ-loop
-loop-less c = search needs
-
-loop-again : tie.Need-loop-again Inv-loop μ-loop
-loop-again c = search needs
-
-same-length : tie.Need-same-length Inv-loop μ-loop
-same-length c = search needs
-
-returns : tie.Need-returns Inv-loop μ-loop
-returns c = search needs
-
 pub write-sheet-spec : {M : Type 1} → statement M
 write-sheet-spec =
-    tie.close
-    (tie.spec
-    Inv-loop
-    μ-loop
-    loop-holds
-    mul-put-groups
-    shared-slice-read-put-groups
-    put-groups-requires
-    add-i
-    loop-less
-    loop-again
-    same-length
-    returns)
+    tie.close (tie.spec Inv-loop μ-loop (search needs) (search needs) (search needs) (search needs) (search needs) (search needs)
+    (search needs) (search needs) (search needs))
