@@ -17,7 +17,7 @@ use Rattle.planner.specs.declared.DayOutlook.{DayOutlook}
 use Rattle.planner.specs.declared.Track.{Track}
 use Rattle.planner.specs.Plan.{depths, refused, plan}
 use Rattle.planner.specs.Outlook.{outlook, outlookOn, daysLeft}
-use Rattle.planner.specs.Carried.{passDay}
+use Rattle.planner.specs.Carried.{trackFrom, passDay}
 use Rattle.planner.proofs.Bounds.{ready-at-most}
 use Rattle.planner.proofs.Carry.{Coming, coming-start, rainBefore}
 use Rattle.planner.proofs.Days.{Draft, draft}
@@ -33,7 +33,7 @@ pub record Drawing (s : Season) (today waiting D last : ℕ) (t : SeasonDay) (be
 
 pub drawing-start : {s : Season} {today D last before : ℕ} {t : SeasonDay} {l : List ℕ} (waiting : ℕ) → Valid s → DayOf s today → D ≤ 120000 → l ≡ replicate (daysLeft s today) 0
     → last ≡ seasonDays s → t ≡ dayOf s today → before ≡ rainBefore t
-    → Drawing s today waiting D last t before ((today - 1) % 7) (t .number) (record { depletion = D; filled = D; turn = today; depth = 0 }) l
+    → Drawing s today waiting D last t before ((today - 1) % 7) (t .number) (trackFrom today D) l
 drawing-start {s} {today} {D} waiting v d h z e i b =
     record {
       coming = coming-start v d e i b;

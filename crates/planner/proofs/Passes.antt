@@ -12,7 +12,7 @@ use Rattle.planner.specs.declared.Track.{Track}
 use Rattle.planner.specs.Choices.{Outlook, plannedDay}
 use Rattle.planner.specs.Plan.{Plan, depths, refused, after, plan}
 use Rattle.planner.specs.Outlook.{outlookOn}
-use Rattle.planner.specs.Carried.{passDay}
+use Rattle.planner.specs.Carried.{trackFrom, passDay}
 use Rattle.planner.proofs.Days.{Draft, planned, unwatered, settled, before, backAt, draft}
 use Rattle.planner.proofs.Walks.{settled-before, endsAt, withDepth-ends, by-walks}
 
@@ -116,7 +116,7 @@ pub record Passing (today left d : ℕ) (rest : ℕ → Draft) (p : Plan) (k : T
   pub same : resumed drawn other (rest (k .depletion)) (rest (k .filled)) ≡ p
 
 pub passing-start : {l : List ℕ} (o : Outlook) (k d D : ℕ) → l ≡ replicate k 0
-    → Passing d k d (draft o k d) (plan o k d D) (record { depletion = D; filled = D; turn = d; depth = 0 }) l
+    → Passing d k d (draft o k d) (plan o k d D) (trackFrom d D) l
 passing-start o k d D e =
     record {
       drawn = [];

@@ -9,6 +9,10 @@ use Rattle.planner.specs.declared.Track.{Track}
 abbrev pub turnIn : ℕ → ℕ → Bool
 turnIn turns week = eqb (turns / 2 ^ week % 2) 1
 
+-- The track at the first day, which starts at D: there is nothing to fill.
+abbrev pub trackFrom : ℕ → ℕ → Track
+trackFrom today D = record { depletion = D; filled = D; turn = today; depth = 0 }
+
 -- Day d is passed with no watering. A turn day is the latest from then on, and the depth that fills it is max(0, D − w).
 unfoldable pub passDay : Track → DayOutlook → ℕ → Track
 passDay k ahead d =

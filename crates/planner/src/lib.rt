@@ -15,7 +15,7 @@ ghost use Rattle.season.specs.Carried.{OnDay};
 ghost use Rattle.planner.specs.Choices.{irrigated};
 ghost use Rattle.planner.specs.Plan.{plan};
 ghost use Rattle.planner.specs.Outlook.{outlook, outlookOn, daysLeft};
-ghost use Rattle.planner.specs.Carried.{turnIn, passDay};
+ghost use Rattle.planner.specs.Carried.{turnIn, trackFrom, passDay};
 ghost use Rattle.planner.specs.Answer.{sum, netOf, settles, answerTo, answer};
 
 // A plan is made: how many depths are above 0, and the totals. Or it is refused: document 01's number, and the number returned with it.
@@ -49,13 +49,14 @@ enum Drawn {
 
 // ---- a planned day
 
-// On the open day waiting water stands in place of planned rain.
-fn water_on(today: u32, waiting: u32, day: u32, rain: u32) -> u32
-    ensures { λ r. ⌜ r ≡ cond (eqb day today) waiting rain ⌝ }
+// One number on a certain day, and another on every other.
+fn on_day(certain: u32, one: u32, day: u32, other: u32) -> u32
+    ensures { λ r. ⌜ r ≡ cond (eqb day certain) one other ⌝ }
 {
-    if day == today { waiting } else { rain }
+    if day == certain { one } else { other }
 }
 
+// On the open day waiting water stands in place of planned rain.
 fn outlook_on(s: Season, today: u32, waiting: u32, t: SeasonDay, rain: u32, week: u32) -> DayOutlook
     requires { ⌜ Valid s ⌝ }
     requires { ⌜ OnDay s t ⌝ }
@@ -66,7 +67,7 @@ fn outlook_on(s: Season, today: u32, waiting: u32, t: SeasonDay, rain: u32, week
     let need = season::crop_need(s, t);
     let ready = season::ready_on(s, t);
     DayOutlook {
-        water: water_on(today, waiting, t.number, rain),
+        water: on_day(today, waiting, t.number, rain),
         need: need,
         ready: ready,
         turn: turn_in(s.turns, week),
@@ -96,14 +97,19 @@ fn week_after(week: u32) -> u32
     if week < 6 { week + 1 } else { 0 }
 }
 
-// What is planned in a month before this day of it, where `to` is planned up to the day before: nothing before the first.
-fn rain_before(day: u32, to: u32) -> u32
-    ensures { λ r. ⌜ r ≡ cond (eqb day 1) 0 to ⌝ }
-{
-    if day == 1 { 0 } else { to }
-}
-
 // ---- the depths
+
+// The track at the first day: there is nothing to fill.
+fn track_from(today: u32, start: u32) -> Track
+    ensures { λ r. ⌜ r ≡ trackFrom today start ⌝ }
+{
+    Track {
+        depletion: start,
+        filled: start,
+        turn: today,
+        depth: 0,
+    }
+}
 
 // A day is passed with no watering. A turn day is the one to fill from then on: filled, it has nothing left before it uses its need.
 fn pass_day(track: Track, ahead: DayOutlook, day: u32) -> Track
@@ -132,7 +138,8 @@ fn pass_day(track: Track, ahead: DayOutlook, day: u32) -> Track
 
 // The depths of the days from `today` on, where zeros stand at first, in one pass. Where a day fails, the latest turn day since the last
 // watering is filled, and the pass goes on as if it had been all along; where the day fails then too, no choice holds it. The month's
-// planned rain and the day of the week are carried along. The season ends where a month or a stage does, and only there is its end tested.
+// planned rain, 0 before its first day, and the day of the week are carried along. The season ends where a month or a stage does, and
+// only there is its end tested.
 fn draw_depths(s: Season, today: u32, waiting: u32, start: u32, depths: &mut [u32]) -> Drawn
     requires { ⌜ Valid s ⌝ }
     requires { ⌜ DayOf s today ⌝ }
@@ -146,12 +153,7 @@ fn draw_depths(s: Season, today: u32, waiting: u32, start: u32, depths: &mut [u3
     let mut t = first;
     let mut before = season::rain_to(s, t, t.day - 1);
     let mut week = (today - 1) % 7;
-    let mut track = Track {
-        depletion: start,
-        filled: start,
-        turn: today,
-        depth: 0,
-    };
+    let mut track = track_from(today, start);
     loop {
         let to = season::rain_to(s, t, t.day);
         let ahead = outlook_on(s, today, waiting, t, to - before, week);
@@ -175,7 +177,7 @@ fn draw_depths(s: Season, today: u32, waiting: u32, start: u32, depths: &mut [u3
         }
         let next = season::next_day(s, t);
         t = next;
-        before = rain_before(t.day, to);
+        before = on_day(1, 0, t.day, to);
     }
 }
 

@@ -3,7 +3,7 @@ use mathlib.Core.Logic.{inl, inr}
 use Prim.Native.Nat.{suc, _+_, _-_}
 use native.Mathlib.Omega.{arith}
 use Rattle.season.specs.Carried.{OnDay}
-use Rattle.season.proofs.Days.{number-is, on-day}
+use Rattle.season.proofs.Days.{number-is, on-day as on-season-day}
 use Rattle.planner.proofs.Carry.{day-few, coming-grows, coming-rain, coming-along, coming-over}
 use Rattle.planner.proofs.Loops.{Drawing, drawing-start, drawing-length, drawing-whole, drawing-next, drawing-fits, drawing-lost, Placed, drawing-place, drawing-passed}
 use Rattle.planner.proofs.draw_depths.Statement.{statement}
@@ -16,7 +16,7 @@ abbrev μ-loop : tie.MeasureT-loop
 μ-loop s today waiting start depths₀ last t₀ before₀ week₀ track₀ depths t before week track = last + 1 - t .number
 
 -- the turn day's place among the depths
-placed : (c : tie.After-struct-known6 Inv-loop μ-loop) → Placed (c .before .before .before .before .before .before .before .before .before .before .before .before .before .before .before .before .args .today) (c .before .before .before .before .before .before .before .pass-day .result .turn) (c .before .before .before .before .before .before .before .before .before .before .loop .depths)
+placed : (c : tie.After-struct-known6 Inv-loop μ-loop) → Placed (c .before .before .before .before .before .before .before .before .before .before .before .before .before .before .before .before .before .args .today) (c .before .before .before .before .before .before .before .pass-day .result .turn) (c .before .before .before .before .before .before .before .before .before .before .loop .depths)
 placed c =
     let at-if2 = c .before in
     let at-if1 = at-if2 .before .before .before in
@@ -28,8 +28,8 @@ placed c =
 -- the day is passed
 passed : (c : tie.Joined1 Inv-loop μ-loop) →
     let at-loop = c .before .before .before .before .before .before in
-    let start = at-loop .before .before .before .before .before .before in
-    Drawing (start .args .s) (start .args .today) (start .args .waiting) (start .args .start) (at-loop .before .before .before .before .season-days .result) (at-loop .loop .t) (at-loop .loop .before) (at-loop .loop .week) (suc (at-loop .loop .t .number)) (c .if1 .track) (c .if1 .depths)
+    let start = at-loop .before .before .before .before .before .before .before in
+    Drawing (start .args .s) (start .args .today) (start .args .waiting) (start .args .start) (at-loop .before .before .before .before .before .season-days .result) (at-loop .loop .t) (at-loop .loop .before) (at-loop .loop .week) (suc (at-loop .loop .t .number)) (c .if1 .track) (c .if1 .depths)
 passed c =
     let at-pass-day = c .before .before .before in
     let at-outlook-on = at-pass-day .before in
@@ -45,7 +45,7 @@ day-of-requires c κs = (c .before .before .pre .0, c .before .before .pre .1 .0
 
 -- the first day is one of the season
 first-on : (c : tie.After-day-of Inv-loop μ-loop) → OnDay (c .before .before .before .args .s) (c .day-of .result)
-first-on c = on-day _ _ _ (c .before .before .before .pre .1 .0) (c .day-of .ensures)
+first-on c = on-season-day _ _ _ (c .before .before .before .pre .1 .0) (c .day-of .ensures)
 
 sub-rain-to : tie.Need-sub-rain-to Inv-loop μ-loop
 sub-rain-to c = day-few (c .before .before .before .before .pre .0) (first-on (c .before)) .0
@@ -59,12 +59,17 @@ rain-to-requires c κs =
 sub-week : tie.Need-sub-week Inv-loop μ-loop
 sub-week c = c .before .before .before .before .before .pre .1 .0 .from
 
+track-from-requires : tie.Need-track-from-requires Inv-loop μ-loop
+track-from-requires c κs = tt
+
 loop-holds : tie.Need-loop-holds Inv-loop μ-loop
 loop-holds c =
-    let at-day-of = c .before .before in
+    let at-rain-to = c .before in
+    let at-day-of = at-rain-to .before .before in
     let at-season-days = at-day-of .before in
     let start = at-season-days .before .before in
-    drawing-start (start .args .waiting) (start .pre .0) (start .pre .1 .0) (start .pre .1 .1 .0) (start .pre .1 .1 .1) (at-season-days .season-days .ensures) (at-day-of .day-of .ensures) (c .rain-to .ensures)
+    rw (c .track-from .ensures)
+    (drawing-start (start .args .waiting) (start .pre .0) (start .pre .1 .0) (start .pre .1 .1 .0) (start .pre .1 .1 .1) (at-season-days .season-days .ensures) (at-day-of .day-of .ensures) (at-rain-to .rain-to .ensures))
 
 rain-to-requires-2 : tie.Need-rain-to-requires-2 Inv-loop μ-loop
 rain-to-requires-2 c κs =
@@ -85,7 +90,7 @@ pass-day-requires c κs = drawing-fits (c .before .before .loop .inv) (c .outloo
 same-length : tie.Need-same-length Inv-loop μ-loop
 same-length c =
     let at-loop = c .before .before .before .before .before .before .before .before .before in
-    let start = at-loop .before .before .before .before .before .before in
+    let start = at-loop .before .before .before .before .before .before .before in
     drawing-length (at-loop .loop .inv) (start .pre .1 .1 .1)
 
 returns : tie.Need-returns Inv-loop μ-loop
@@ -133,7 +138,7 @@ loop-again c =
 same-length-2 : tie.Need-same-length-2 Inv-loop μ-loop
 same-length-2 c =
     let at-if1 = c .before .before .before .before .before in
-    let start = at-if1 .before .before .before .before .before .before .before .before .before .before .before .before in
+    let start = at-if1 .before .before .before .before .before .before .before .before .before .before .before .before .before in
     drawing-length (passed at-if1) (start .pre .1 .1 .1)
 
 returns-2 : tie.Need-returns-2 Inv-loop μ-loop
@@ -144,8 +149,8 @@ next-day-requires c κs =
     let w = c .before .before .before .before .before .before .before .before .before .before .before .loop .inv .coming in
     (w .valid, w .day)
 
-rain-before-requires : tie.Need-rain-before-requires Inv-loop μ-loop
-rain-before-requires c κs = tt
+on-day-requires : tie.Need-on-day-requires Inv-loop μ-loop
+on-day-requires c κs = tt
 
 loop-less-2 : tie.Need-loop-less-2 Inv-loop μ-loop
 loop-less-2 c =
@@ -162,7 +167,7 @@ loop-again-2 c =
     let at-rain-to2 = at-if1 .before .before .before .before .before in
     let at-loop = at-rain-to2 .before in
     drawing-next (passed at-if1) (at-next-day .next-day .ensures)
-    (coming-over (at-loop .loop .inv .coming) (at-rain-to2 .rain-to2 .ensures) (at-next-day .next-day .ensures) (at-week-after .week-after .ensures) (at-if4 .if4 .left) (c .rain-before .ensures))
+    (coming-over (at-loop .loop .inv .coming) (at-rain-to2 .rain-to2 .ensures) (at-next-day .next-day .ensures) (at-week-after .week-after .ensures) (at-if4 .if4 .left) (c .on-day .ensures))
 
 pub draw-depths-spec : {M : Type 1} → statement M
 draw-depths-spec =
@@ -175,6 +180,7 @@ draw-depths-spec =
     sub-rain-to
     rain-to-requires
     sub-week
+    track-from-requires
     loop-holds
     rain-to-requires-2
     sub-outlook-on
@@ -193,6 +199,6 @@ draw-depths-spec =
     same-length-2
     returns-2
     next-day-requires
-    rain-before-requires
+    on-day-requires
     loop-less-2
     loop-again-2)

@@ -10,8 +10,8 @@ crop-need-requires c κs = search needs
 ready-on-requires : tie.Need-ready-on-requires
 ready-on-requires c κs = search needs
 
-water-on-requires : tie.Need-water-on-requires
-water-on-requires c κs = search needs
+on-day-requires : tie.Need-on-day-requires
+on-day-requires c κs = search needs
 
 turn-in-requires : tie.Need-turn-in-requires
 turn-in-requires c κs = omega (arith, c .before .before .before .pre .1 .1 .1)
@@ -22,4 +22,4 @@ returns c = cc
 pub outlook-on-spec : {M : Type 1} → statement M
 outlook-on-spec =
     tie.close
-    (tie.spec crop-need-requires ready-on-requires water-on-requires turn-in-requires returns)
+    (tie.spec crop-need-requires ready-on-requires on-day-requires turn-in-requires returns)
