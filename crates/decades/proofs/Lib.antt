@@ -1,3 +1,4 @@
+pub mod Stores
 pub mod Year
 pub mod Count
 pub mod Rows

@@ -3,8 +3,10 @@ use season::Net;
 use season::Season;
 use season::SeasonDay;
 ghost use mathlib.Core.Path.{_≡_};
+ghost use mathlib.Core.Bool.{cond};
 ghost use mathlib.Core.List.{_++_};
 ghost use Prim.Native.Nat.{_+_, _-_, _*_, _≤_};
+ghost use lib.Dec.{leb};
 ghost use lib.ListN.{length, drop};
 ghost use lib.Seq.{sets};
 ghost use Rattle.season.specs.Sheet.{Valid};
@@ -27,13 +29,20 @@ struct Row {
     rain: u32,
 }
 
+// A number for each decade of a month.
+fn by_decade(day: u32, first: u32, second: u32, third: u32) -> u32
+    ensures { λ r. ⌜ r ≡ cond (leb day 10) first (cond (leb day 20) second third) ⌝ }
+{
+    if day <= 10 {
+        return first;
+    }
+    if day <= 20 { second } else { third }
+}
+
 fn decade_of(day: u32) -> u32
     ensures { λ r. ⌜ r ≡ decadeOf day ⌝ }
 {
-    if day <= 10 {
-        return 1;
-    }
-    if day <= 20 { 2 } else { 3 }
+    by_decade(day, 1, 2, 3)
 }
 
 fn same_decade(a: SeasonDay, b: SeasonDay) -> bool
@@ -81,10 +90,7 @@ fn row_count(s: Season) -> usize
 fn decade_end(day: u32) -> u32
     ensures { λ r. ⌜ r ≡ decadeEnd day ⌝ }
 {
-    if day <= 10 {
-        return 10;
-    }
-    if day <= 20 { 20 } else { 31 }
+    by_decade(day, 10, 20, 31)
 }
 
 // How many of the days after t are of its month, stage and decade.
@@ -129,12 +135,12 @@ fn put_row(out: &mut [u32], at: usize, efficiency: u32, row: Row)
 {
     let net = Net(season::saturating_sub(row.need, row.rain));
     let gross = season::gross_of(efficiency, net).points();
-    out[at] = row.month;
-    out[at + 1] = row.decade;
-    out[at + 2] = row.need;
-    out[at + 3] = row.rain;
-    out[at + 4] = net.0;
-    out[at + 5] = gross;
+    let numbers = [row.month, row.decade, row.need, row.rain, net.0, gross];
+    let mut i: usize = 0;
+    while i < 6 {
+        out[at + i] = numbers[i];
+        i += 1;
+    }
 }
 
 // The rows, from the start of a buffer that has room for them: one pass over the days, by stretches of one month, stage and decade.

@@ -11,13 +11,13 @@ use Rattle.decades.specs.Table.{rowsTo, rowCount, table, tabled}
 use Rattle.decades.specs.declared.Tabled.{Tabled}
 use Rattle.decades.specs.declared.Tabled.the-variants.{Rows, Refused as Declined}
 use Rattle.decades.proofs.Count.{rows-at-most}
+use Rattle.decades.proofs.Stores.{sets-more}
 use Rattle.decades.proofs.Rows.{length-flat}
 use Rattle.decades.proofs.Answers.{rows-refused, tabled-whole}
 use Rattle.sheet.specs.Sheets.{sheetOf}
 use Rattle.sheet.proofs.Accepted.{accepted-season}
 use Rattle.controller.specs.Calls.{onSheet, sheetTabled}
 use Rattle.controller.proofs.Sheets.{sheet-refused, sheet-accepted}
-use Rattle.printed.proofs.Texts.{sets-more}
 use Rattle.printed.specs.Text.{cell, cells, printed, printedTo}
 
 -- A text at the start of a buffer.

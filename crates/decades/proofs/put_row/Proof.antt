@@ -1,102 +1,82 @@
--- Six stores from the place on.
-use native.Mathlib.Numerals.{towards-suc}
+-- The six numbers are stored one by one.
+use Prim.Native.Nat.{_-_}
+use mathlib.Core.Path.{refl, _∙_}
 use native.Mathlib.Omega.{arith}
-use lib.ListN.{length-set}
 use Rattle.decades.specs.Table.{six}
+use Rattle.decades.proofs.Stores.{Putting, putting-length, putting-place, putting-more, putting-end}
 use borrow.Author.Needs.{needs}
 use Rattle.decades.proofs.put_row.Statement.{statement}
 use Rattle.decades.proofs.put_row.Tie as tie
 
-saturating-sub-requires : tie.Need-saturating-sub-requires
+abbrev Inv-loop : tie.InvT-loop
+Inv-loop out₀ at efficiency gross numbers i₀ out i = Putting numbers out₀ at i out
+
+abbrev μ-loop : tie.MeasureT-loop
+μ-loop out₀ at efficiency gross numbers i₀ out i = 6 - i
+
+saturating-sub-requires : tie.Need-saturating-sub-requires Inv-loop μ-loop
 saturating-sub-requires c κs = search needs
 
-gross-of-requires : tie.Need-gross-of-requires
+gross-of-requires : tie.Need-gross-of-requires Inv-loop μ-loop
 gross-of-requires c κs = search needs
 
-points-requires : tie.Need-points-requires
+points-requires : tie.Need-points-requires Inv-loop μ-loop
 points-requires c κs = search needs
 
-mul-out : tie.Need-mul-out
-mul-out c = search needs
+loop-holds : tie.Need-loop-holds Inv-loop μ-loop
+loop-holds c = record { few = omega arith; room = c .before .before .before .before .pre .0; stored = refl }
 
-slice-write-out : tie.Need-slice-write-out
-slice-write-out c = search needs
+mul-out : tie.Need-mul-out Inv-loop μ-loop
+mul-out c = omega arith
 
-add-out : tie.Need-add-out
-add-out c = search needs
+array-read-out : tie.Need-array-read-out Inv-loop μ-loop
+array-read-out c = search needs
 
-mul-out-2 : tie.Need-mul-out-2
-mul-out-2 c = search needs
+add-out : tie.Need-add-out Inv-loop μ-loop
+add-out c = omega arith
 
-slice-write-out-2 : tie.Need-slice-write-out-2
-slice-write-out-2 c = simp length-set (omega arith)
+mul-out-2 : tie.Need-mul-out-2 Inv-loop μ-loop
+mul-out-2 c = omega arith
 
-add-out-2 : tie.Need-add-out-2
-add-out-2 c = search needs
+slice-write-out : tie.Need-slice-write-out Inv-loop μ-loop
+slice-write-out c = putting-place (c .before .loop .inv) (c .loop-test .taken)
 
-mul-out-3 : tie.Need-mul-out-3
-mul-out-3 c = search needs
+add-i : tie.Need-add-i Inv-loop μ-loop
+add-i c = omega arith
 
-slice-write-out-3 : tie.Need-slice-write-out-3
-slice-write-out-3 c = simp length-set (omega arith)
+loop-less : tie.Need-loop-less Inv-loop μ-loop
+loop-less c = omega arith
 
-add-out-3 : tie.Need-add-out-3
-add-out-3 c = search needs
+loop-again : tie.Need-loop-again Inv-loop μ-loop
+loop-again c = putting-more (c .before .loop .inv) (c .loop-test .taken)
 
-mul-out-4 : tie.Need-mul-out-4
-mul-out-4 c = search needs
+same-length : tie.Need-same-length Inv-loop μ-loop
+same-length c = putting-length (c .before .loop .inv)
 
-slice-write-out-4 : tie.Need-slice-write-out-4
-slice-write-out-4 c = simp length-set (omega arith)
-
-add-out-4 : tie.Need-add-out-4
-add-out-4 c = search needs
-
-mul-out-5 : tie.Need-mul-out-5
-mul-out-5 c = search needs
-
-slice-write-out-5 : tie.Need-slice-write-out-5
-slice-write-out-5 c = simp length-set (omega arith)
-
-add-out-5 : tie.Need-add-out-5
-add-out-5 c = search needs
-
-mul-out-6 : tie.Need-mul-out-6
-mul-out-6 c = search needs
-
-slice-write-out-6 : tie.Need-slice-write-out-6
-slice-write-out-6 c = simp length-set (omega arith)
-
-same-length : tie.Need-same-length
-same-length c = search needs
-
-returns : tie.Need-returns
+returns : tie.Need-returns Inv-loop μ-loop
 unfolding six
-returns c = simp (towards-suc, c .points .ensures, c .before .gross-of .ensures, c .before .before .saturating-sub .ensures)
+returns c =
+    let at-points = c .before .before in
+    putting-end (c .before .loop .inv) (c .loop-test .left)
+    ∙ rw (at-points .points .ensures, at-points .before .gross-of .ensures, at-points .before .before .saturating-sub .ensures)
 
 pub put-row-spec : {M : Type 1} → statement M
 put-row-spec =
     tie.close
     (tie.spec
+    Inv-loop
+    μ-loop
     saturating-sub-requires
     gross-of-requires
     points-requires
+    loop-holds
     mul-out
-    slice-write-out
+    array-read-out
     add-out
     mul-out-2
-    slice-write-out-2
-    add-out-2
-    mul-out-3
-    slice-write-out-3
-    add-out-3
-    mul-out-4
-    slice-write-out-4
-    add-out-4
-    mul-out-5
-    slice-write-out-5
-    add-out-5
-    mul-out-6
-    slice-write-out-6
+    slice-write-out
+    add-i
+    loop-less
+    loop-again
     same-length
     returns)
