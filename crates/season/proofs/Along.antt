@@ -117,7 +117,7 @@ module _ {s : Season} {t : SeasonDay} (v : Valid s) (o : OnDay s t) (k : ℕ) (h
       let l : k ≤ dayOf s (t .number) .left = rw (← (ap (λ (d : SeasonDay). d .left) (o .is))) h in
       subst (λ (d : SeasonDay). Along k d (dayOf s (t .number + k))) (sym (o .is)) (along-days s (v .ranges) (t .number) k (o .of) l)
 
-  pub along-raised : raised (t .top) (t .rise) k ≡ dayOf s (t .number + k) .top
+  along-raised : raised (t .top) (t .rise) k ≡ dayOf s (t .number + k) .top
   unfolding raised
   along-raised = ap natAbs (sym (along .top))
 

@@ -85,7 +85,7 @@ unfolding cropNeed
 need-le s i v d =
     let k = slopeOf s i in
     let some : 1 ≤ k .bottom = slope-small s i (v .ranges) .some in
-    let below : cropNeed s i < 3001 = rw (kc-slope s i (v .ranges) d) (div-lt-iff-lt-mul {k = 2 * (100 * k .bottom)} (omega arith) .1 (omega (arith, weighed s i (dateOf s i .month) (v .ranges)))) in
+    let below : cropNeed s i < 3001 = rw (kc-slope s i d) (div-lt-iff-lt-mul {k = 2 * (100 * k .bottom)} (omega arith) .1 (omega (arith, weighed s i (dateOf s i .month) (v .ranges)))) in
     omega arith
 
 -- rain

@@ -49,7 +49,7 @@ pub record OnInMonth (t u : SeasonDay) : Type 0 where
 
 module _ {s : Season} {t : SeasonDay} (v : Valid s) (o : OnDay s t) where
   -- The day's own month, day and length are those of its date, which the calendar has.
-  pub day-date : (t .month ≡ dateOf s (t .number) .month) × (t .day ≡ dateOf s (t .number) .day)
+  day-date : (t .month ≡ dateOf s (t .number) .month) × (t .day ≡ dateOf s (t .number) .day)
   unfolding dayOf
   day-date = (ap (λ (d : SeasonDay). d .month) (o .is), ap (λ (d : SeasonDay). d .day) (o .is))
 
@@ -60,11 +60,11 @@ module _ {s : Season} {t : SeasonDay} (v : Valid s) (o : OnDay s t) where
   unfolding dayOf
   length-is = ap (λ (d : SeasonDay). d .length) (o .is) ∙ ap monthDays (sym (day-date .0))
 
-  pub effective-at-most : t .effective ≤ 25000
+  effective-at-most : t .effective ≤ 25000
   unfolding dayOf
   effective-at-most = rw (ap (λ (d : SeasonDay). d .effective) (o .is)) (effective-le _ (v .ranges .rain _))
 
-  -- What rain_to requires.
+  -- The day stands within its month.
   pub day-small : (1 ≤ t .day) × (t .day ≤ t .length) × (t .length ≤ 31)
   day-small =
       let p = day-proper in
@@ -81,12 +81,12 @@ module _ {s : Season} {t : SeasonDay} (v : Valid s) (o : OnDay s t) where
       let d = day-small in
       quotient-up (t .effective * (t .day - 1)) (t .effective * t .day) (t .length) (omega (arith, d)) (mul-le-mul-left (t .effective) (omega arith))
 
-  pub effective-is : t .effective ≡ effectiveIn s (t .month)
+  effective-is : t .effective ≡ effectiveIn s (t .month)
   unfolding dayOf
   effective-is = ap (λ (d : SeasonDay). d .effective) (o .is) ∙ ap (effectiveIn s) (sym (day-date .0))
 
   -- Crop need by the day's own numbers.
-  pub top-is : t .top ≡ etoIn s (dateOf s (t .number) .month) * slopeOf s (t .number) .top + 50 * slopeOf s (t .number) .bottom
+  top-is : t .top ≡ etoIn s (dateOf s (t .number) .month) * slopeOf s (t .number) .top + 50 * slopeOf s (t .number) .bottom
   unfolding dayOf
   top-is = ap (λ (d : SeasonDay). d .top) (o .is)
 
@@ -114,7 +114,7 @@ module _ {s : Season} {t : SeasonDay} (v : Valid s) (o : OnDay s t) where
   need-quotient =
       let e = etoIn s (dateOf s (t .number) .month) in
       let two : 2 * t .top ≡ 2 * (e * stage .top) + 100 * stage .bottom = omega (arith, top-is) in
-      rw (kc-slope s (t .number) (v .ranges) (o .of), ← two) (sym (mul-div-mul-left (t .top) hundred (omega arith)))
+      rw (kc-slope s (t .number) (o .of), ← two) (sym (mul-div-mul-left (t .top) hundred (omega arith)))
 
   pub need-is : scaled (t .top) (t .reciprocal) ≡ cropNeed s (t .number)
   need-is = rw reciprocal-is (by-reciprocal (t .top) hundred some small ∙ need-quotient)
@@ -164,10 +164,6 @@ module _ {s : Season} {t : SeasonDay} (v : Valid s) (o : OnDay s t) where
     root-fits = rw growth-per-day-is (omega (arith, high-product (t .number) (s .full - s .sowing) (s .initial + s .development) (omega arith) reach, root-few))
 
   -- ---- the day after
-
-  here : t ≡ onDate s (t .number) (dateIs (t .month) (t .day))
-  unfolding dayOf
-  here = o .is ∙ ap (onDate s (t .number)) (λ i. record { month = sym (day-date .0) i; day = sym (day-date .1) i })
 
   pub after : (d : Date) → nextDay (dateIs (t .month) (t .day)) ≡ d → onDate s (t .number + 1) d ≡ dayOf s (t .number + 1)
   unfolding dayOf

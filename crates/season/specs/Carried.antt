@@ -25,14 +25,14 @@ reciprocal d = scale / d + 1
 abbrev pub scaled : ℕ → ℕ → ℕ
 scaled x i = x * i / scale
 
--- What a top comes to in k days, where `rise` may be negative; and the same as a natural number.
+-- `top` after k days of `rise`, which may be negative; and the same as a natural number.
 abbrev pub risen : ℕ → ℤ → ℕ → ℤ
 risen top rise k = pos top +ℤ pos k *ℤ rise
 
 unfoldable pub raised : ℕ → ℤ → ℕ → ℕ
 raised top rise k = natAbs (risen top rise k)
 
--- It is never negative, and fits 32 bits.
+-- The sum is never negative, and it and its parts fit 32 bits.
 pub record Raising (top : ℕ) (rise : ℤ) (k : ℕ) : Type 0 where
   pub never-negative : pos (raised top rise k) ≡ risen top rise k
   pub small : raised top rise k < 2147483648
@@ -56,7 +56,7 @@ abbrev pub growthPerDay : Season → ℕ
 growthPerDay s = (s .full - s .sowing) * reciprocal (s .initial + s .development)
 
 -- A season day as the code carries it from day to day: its number, its date, its month's length and effective rain; crop need as a quotient,
--- whose top grows by `rise` on each of the `left` days after it in its month and stage; the reciprocal of 100 × L, the effective rain
+-- whose top is `rise` more on each of the `left` days after it in its month and stage; the reciprocal of 100 × L, the effective rain
 -- times the reciprocal of the month's length, and what the roots grow.
 abbrev pub onDate : Season → ℕ → Date → SeasonDay
 onDate s i t =

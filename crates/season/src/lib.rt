@@ -67,7 +67,7 @@ struct Slope {
 
 // A season day as it is carried from day to day, so that neither a walk over the year nor a division is made for each: its number, its
 // date, and its month's length and effective rain. Crop need is `top` / (100 × L), where half a point is in `top`; the `left` days after
-// this one are of its month and its stage, and there `top` grows by `rise` a day. Then the reciprocal of 100 × L; effective rain
+// this one are of its month and its stage, and there `top` is `rise` more each day. Then the reciprocal of 100 × L; effective rain
 // times the reciprocal of the month's length, and what the roots grow times the reciprocal of G.
 pub struct SeasonDay {
     pub number: u32,

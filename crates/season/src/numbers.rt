@@ -1,4 +1,4 @@
-// Numbers: a difference that stops at 0, the lesser of two, and a quotient by a reciprocal.
+// Numbers: a difference that stops at 0, the lesser of two, a quotient by a reciprocal, and a top that rises by a difference.
 ghost use mathlib.Core.Path.{_≡_};
 ghost use Prim.Native.Nat.{_-_, _*_, _<_, min};
 ghost use Rattle.season.specs.Carried.{reciprocal, scaled, raised, Raising};
@@ -35,7 +35,7 @@ pub fn quotient(x: u32, reciprocal: u64) -> u32
     (x as u64 * reciprocal / SCALE) as u32
 }
 
-// What a top comes to in so many days: the rise may be negative, the sum is not.
+// `top` after so many days of `rise`: the difference may be negative, the sum is not.
 pub fn raised(top: u32, rise: i32, days: u32) -> u32
     requires { ⌜ Raising top rise days ⌝ }
     ensures { λ r. ⌜ r ≡ raised top rise days ⌝ }

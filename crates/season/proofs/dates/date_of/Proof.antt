@@ -1,4 +1,4 @@
--- `season::date_of` meets its contract. Assumes nothing.
+-- Each turn goes on to the first of the next month; what is left then is the day of the month.
 use mathlib.Core.Path.{refl}
 use native.Mathlib.Omega.{arith}
 use borrow.Author.Needs.{needs}

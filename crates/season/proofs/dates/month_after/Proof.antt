@@ -1,4 +1,4 @@
--- `season::month_after` meets its contract. Assumes nothing.
+-- January follows December.
 use borrow.Author.Tests.{lt-ltb, le-ltb}
 use borrow.Author.Needs.{needs}
 use Rattle.season.proofs.dates.month_after.Statement.{statement}

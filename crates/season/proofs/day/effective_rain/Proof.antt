@@ -1,4 +1,4 @@
--- `season::effective_rain` meets its contract. Assumes nothing.
+-- A branch for each of the two rules.
 use Prim.Native.Nat.{_-_}
 use native.Mathlib.Omega.{arith}
 use borrow.Author.Tests.{le-leb, lt-leb}

@@ -9,7 +9,7 @@ slope-of-requires : tie.Need-slope-of-requires
 slope-of-requires c κs = search needs
 
 returns : tie.Need-returns
-returns c = rw (c .slope-of .ensures) (sym (kc-slope (c .before .args .s) (c .before .args .day) (c .before .pre .0 .ranges) (c .before .pre .1)))
+returns c = rw (c .slope-of .ensures) (sym (kc-slope (c .before .args .s) (c .before .args .day) (c .before .pre .1)))
 
 pub kc-of-spec : {M : Type 1} → statement M
 kc-of-spec = tie.close (tie.spec slope-of-requires returns)
