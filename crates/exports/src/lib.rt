@@ -15,8 +15,10 @@ ghost use Rattle.journal.specs.declared.Entry.the-variants.{Water, Close};
 ghost use Rattle.journal.specs.declared.Source.the-variants.{Rain, Irrigation};
 ghost use Rattle.journal.specs.Entries.{ledgerNumbers};
 ghost use Rattle.journal.specs.Opening as opened;
+ghost use Rattle.planner.specs.Answer.{numbersOf};
 ghost use Rattle.controller.specs.Calls.{sheetOpened, sheetRecorded, sheetMended, sheetPlanned, sheetTabled};
 ghost use Rattle.exports.specs.Written.{writtenOver, recordedOut, mendedOut, plannedOver, tabledOver};
+ghost use Rattle.exports.specs.Small.{SmallPlanned};
 
 // ---- an answer's numbers
 
@@ -84,6 +86,17 @@ fn put_totals(out: &mut [u32; 12], waterings: u32, net: u32, gross: u32)
     out[2] = waterings;
     out[3] = net;
     out[4] = gross;
+}
+
+// A plan by its case. (A function of its own: within the call it slows the pass over the days by a tenth.)
+fn put_planned(out: &mut [u32; 12], p: Planned)
+    requires { ⌜ SmallPlanned p ⌝ }
+    ensures { λ _. ⌜ now (out .exit) ≡ writtenOver (numbersOf p) (now (out .entry)) ⌝ }
+{
+    match p {
+        Planned::Made(waterings, net, gross) => put_totals(out, waterings, net.0, gross.points()),
+        Planned::Refused(number, value) => put_refusal(out, number, value),
+    }
 }
 
 // A table that is made: how many rows.
@@ -167,10 +180,7 @@ pub extern "C" fn balladsky_mend(sheet: &[u8], area: &[u8], out: &mut [u32; 12])
 pub extern "C" fn balladsky_plan(sheet: &[u8], area: &[u8], depths: &mut [u32], out: &mut [u32; 12])
     ensures { λ _. ⌜ (now (out .exit), now (depths .exit)) ≡ plannedOver (now (out .entry)) (sheetPlanned (now (sheet .entry)) (now (area .entry)) (now (depths .entry))) ⌝ }
 {
-    match controller::plan(sheet, area, depths) {
-        Planned::Made(waterings, net, gross) => put_totals(out, waterings, net.0, gross.points()),
-        Planned::Refused(number, value) => put_refusal(out, number, value),
-    }
+    put_planned(out, controller::plan(sheet, area, depths));
 }
 
 // Rows; six numbers a row in the lent buffer. Refusals 1 to 7, and 15.
