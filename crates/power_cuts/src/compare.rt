@@ -1,8 +1,7 @@
 // Whether an answer of the product is the model's.
-use crate::model;
+use crate::loose::unwiped;
 use crate::model::EntryBytes;
 use crate::model::Totals;
-use crate::stains;
 use journal::Ledger;
 use journal::Mended;
 use journal::Opening;
@@ -63,32 +62,32 @@ pub fn same_opening(o: Opening, t: Totals, loose: usize) -> bool {
     }
 }
 
-fn get_place(places: &[usize], at: usize) -> u64 {
-    if at < places.len() {
-        places[at] as u64
-    } else {
-        0
+// Place i of a mend that has so many: that of the loose byte that is so many behind the highest to wipe.
+fn same_place(
+    place: usize,
+    i: usize,
+    count: usize,
+    bytes: [u8; 4],
+    loose: usize,
+    from: u64,
+) -> bool {
+    if count <= i {
+        return true;
     }
+    place as u64 == trial::saturating_add(from, unwiped(&bytes, loose, i) as u64)
 }
 
 // The mend's places are those of the loose bytes that are not FF, highest first.
-fn same_places(places: &[usize], count: usize, bytes: &[u8], loose: usize, from: u64) -> bool {
-    let mut i: usize = 0;
-    while i < count {
-        let at = stains::stain(bytes, loose, i);
-        if get_place(places, i) != model::plus(from, at as u64) {
-            return false;
-        }
-        i += 1;
-    }
-    stains::stain(bytes, loose, count) == 4
-}
-
 pub fn same_mend(m: Mended, bytes: [u8; 4], loose: usize, from: u64) -> bool {
     let v = m.verdict;
-    let places = m.places;
+    let p = m.places;
+    let count = m.count;
     match v {
-        Verdict::Accepted => same_places(&places, m.count, &bytes, loose, from),
+        Verdict::Accepted => count <= 3
+            && same_place(p[0], 0, count, bytes, loose, from)
+            && same_place(p[1], 1, count, bytes, loose, from)
+            && same_place(p[2], 2, count, bytes, loose, from)
+            && unwiped(&bytes, loose, count) == 4,
         Verdict::Refused(_, _) => false,
     }
 }

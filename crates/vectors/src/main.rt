@@ -32,7 +32,7 @@ fn distance(a: u64, b: u64) -> u64 {
     if a < b { b - a } else { a - b }
 }
 
-fn count_of(figures: u64, known: u64, wrong: u64) -> Tally {
+fn tally_of(figures: u64, known: u64, wrong: u64) -> Tally {
     Tally {
         figures,
         known,
@@ -43,10 +43,10 @@ fn count_of(figures: u64, known: u64, wrong: u64) -> Tally {
 // The count of one line.
 fn counted(o: Outcome) -> Tally {
     match o {
-        Outcome::Nothing => count_of(0, 0, 0),
-        Outcome::Agrees => count_of(1, 0, 0),
-        Outcome::Differs => count_of(1, 1, 0),
-        Outcome::Mismatch => count_of(1, 0, 1),
+        Outcome::Nothing => tally_of(0, 0, 0),
+        Outcome::Agrees => tally_of(1, 0, 0),
+        Outcome::Differs => tally_of(1, 1, 0),
+        Outcome::Mismatch => tally_of(1, 0, 1),
     }
 }
 
@@ -155,7 +155,7 @@ fn run_text(data: &[u8], rule: u32) -> Tally {
     let mut fields = [0u32; 40];
     let mut balance = [0u32; 6];
     let mut area = [255u8; 512];
-    let mut all = count_of(0, 0, 0);
+    let mut all = tally_of(0, 0, 0);
     let mut at: usize = 0;
     while at < data.len() {
         let end = text::place_of(data, at, b'\n');
@@ -228,7 +228,7 @@ fn run_exact_seasons(before: Tally) -> Tally {
 }
 
 fn main() {
-    let mut t = run_rules(count_of(0, 0, 0));
+    let mut t = run_rules(tally_of(0, 0, 0));
     t = run_sheets(t);
     t = run_days(t);
     t = run_printed_seasons(t);

@@ -1,0 +1,251 @@
+// A history of calls with one power cut, beside the model: each call's answer and each opening is compared with the model's.
+use crate::compare;
+use crate::loose;
+use crate::model;
+use crate::model::Block;
+use crate::model::EntryBytes;
+use crate::print;
+use crate::print_number;
+use journal::Recorded;
+use trial::saturating_add;
+ghost use mathlib.Core.Path.{_≡_};
+ghost use lib.ListN.{length};
+
+// The model's state but for its entries, which stand in an array beside it, and whether all answers were the same so far.
+struct Book {
+    count: usize,
+    loose: usize,
+    bytes: [u8; 4],
+    same: bool,
+}
+
+// A cut: the call, how many of its stores are done, and how many of the mend's that follows it; 4 for no mend.
+struct Cut {
+    call: usize,
+    done: usize,
+    mended: usize,
+}
+
+fn book_of(count: usize, loose: usize, bytes: [u8; 4], same: bool) -> Book {
+    Book {
+        count,
+        loose,
+        bytes,
+        same,
+    }
+}
+
+fn with_verdict(b: Book, same: bool) -> Book {
+    let bytes = b.bytes;
+    book_of(b.count, b.loose, bytes, b.same && same)
+}
+
+fn recorded(sheet: &[u8], area: &[u8], call: u32) -> Recorded {
+    let amount = model::amount_of(call);
+    match model::kind_of(call) {
+        model::RAIN => controller::rain(sheet, area, amount),
+        model::IRRIGATION => controller::irrigation(sheet, area, amount),
+        _ => controller::close(sheet, area),
+    }
+}
+
+// The model after so many stores of an accepted entry.
+fn entered(entries: &mut [u32], b: Book, call: u32, w: EntryBytes, done: usize) -> Book {
+    let bytes = w.bytes;
+    if done < w.count {
+        return book_of(b.count, done, bytes, b.same);
+    }
+    trial::put(entries, b.count, call);
+    let count = saturating_add(b.count as u64, 1) as usize;
+    book_of(count, 0, bytes, b.same)
+}
+
+// Rain, irrigation or close, of whose stores so many are done.
+fn record(
+    sheet: &[u8],
+    block: Block,
+    area: &mut [u8],
+    entries: &mut [u32],
+    b: Book,
+    call: u32,
+    done: usize,
+) -> Book {
+    let t = model::worked(block, entries, b.count);
+    let size = area.len() as u64;
+    let expected = model::refusal(block, t, b.loose, size, call);
+    let w = model::written(model::kind_of(call), model::number_of(t, call));
+    let r = recorded(sheet, area, call);
+    let next = with_verdict(b, compare::same_record(r, t, expected, w));
+    if expected != 0 {
+        return next;
+    }
+    trial::store(area, r, done);
+    entered(entries, next, call, w, done)
+}
+
+// The model after so many stores of a mend: once all loose bytes are FF, none is loose.
+fn mended(b: Book, done: usize) -> Book {
+    let mut bytes = b.bytes;
+    loose::wipe(&mut bytes, b.loose, done);
+    if loose::unwiped(&bytes, b.loose, 0) == 4 {
+        return book_of(b.count, 0, bytes, b.same);
+    }
+    book_of(b.count, b.loose, bytes, b.same)
+}
+
+fn mend(
+    sheet: &[u8],
+    block: Block,
+    area: &mut [u8],
+    entries: &[u32],
+    b: Book,
+    done: usize,
+) -> Book {
+    let t = model::worked(block, entries, b.count);
+    let m = controller::mend(sheet, area);
+    let bytes = b.bytes;
+    let next = with_verdict(b, compare::same_mend(m, bytes, b.loose, t.place));
+    trial::store_mend(area, m, done);
+    mended(next, done)
+}
+
+// The opening after a call.
+fn opened(sheet: &[u8], block: Block, area: &[u8], entries: &[u32], b: Book) -> Book {
+    let t = model::worked(block, entries, b.count);
+    with_verdict(
+        b,
+        compare::same_opening(controller::open(sheet, area), t, b.loose),
+    )
+}
+
+// A call with so many stores done, and the opening after it.
+fn step(
+    sheet: &[u8],
+    block: Block,
+    area: &mut [u8],
+    entries: &mut [u32],
+    b: Book,
+    call: u32,
+    done: usize,
+) -> Book {
+    if model::kind_of(call) == model::MEND {
+        let next = mend(sheet, block, area, entries, b, done);
+        return opened(sheet, block, area, entries, next);
+    }
+    let next = record(sheet, block, area, entries, b, call, done);
+    opened(sheet, block, area, entries, next)
+}
+
+// After the cut call: a mend that is cut too, and a whole one.
+fn recover(
+    sheet: &[u8],
+    block: Block,
+    area: &mut [u8],
+    entries: &mut [u32],
+    b: Book,
+    here: bool,
+    mended: usize,
+) -> Book {
+    if !here {
+        return b;
+    }
+    if mended == 4 {
+        return b;
+    }
+    let next = step(sheet, block, area, entries, b, model::MEND, mended);
+    step(sheet, block, area, entries, next, model::MEND, 4)
+}
+
+fn stores_done(here: bool, cut: Cut) -> usize {
+    if here { cut.done } else { 4 }
+}
+
+// A history with one cut, on a blank area: whether all answers are the model's.
+fn play(
+    sheet: &[u8],
+    block: Block,
+    area: &mut [u8],
+    entries: &mut [u32],
+    history: &[u32],
+    cut: Cut,
+) -> bool {
+    let mut b = Book {
+        count: 0,
+        loose: 0,
+        bytes: [0, 0, 0, 0],
+        same: true,
+    };
+    let mut i: usize = 0;
+    while i < history.len() {
+        let next = i + 1;
+        let here = i == cut.call;
+        let call = history[i];
+        b = step(sheet, block, area, entries, b, call, stores_done(here, cut));
+        b = recover(sheet, block, area, entries, b, here, cut.mended);
+        i = next;
+    }
+    b.same
+}
+
+// The `ensures` gives only the length, which lending the array needs.
+fn blank() -> [u8; 512]
+    ensures { λ r. ⌜ 512 ≡ length r ⌝ }
+{
+    [255; 512]
+}
+
+fn no_calls() -> [u32; 136]
+    ensures { λ r. ⌜ 136 ≡ length r ⌝ }
+{
+    [0; 136]
+}
+
+// The same on an area of so many bytes.
+fn play_on(sheet: &[u8], block: Block, size: isize, history: &[u32], cut: Cut) -> bool {
+    let mut area = blank();
+    let mut entries = no_calls();
+    let n = io::count(size, &area);
+    play(sheet, block, &mut area[..n], &mut entries, history, cut)
+}
+
+// Every cut of a call: after 0 to 3 of its stores, and then no mend, or one cut after 0 to 3 of its own.
+fn cut_call(sheet: &[u8], block: Block, size: isize, history: &[u32], call: usize) -> bool {
+    let mut k: usize = 0;
+    while k < 20 {
+        let cut = Cut {
+            call,
+            done: k / 5,
+            mended: k % 5,
+        };
+        if !play_on(sheet, block, size, history, cut) {
+            print_cut(cut);
+            return false;
+        }
+        k += 1;
+    }
+    true
+}
+
+fn print_cut(cut: Cut) {
+    print(b"difference: call ");
+    print_number(cut.call as u64);
+    print(b" cut after ");
+    print_number(cut.done as u64);
+    print(b" stores, the mend after ");
+    print_number(cut.mended as u64);
+    print(b"\n");
+}
+
+// Cuts every call of a history from one on; how many calls were cut, or 0 at the first difference.
+pub fn cut_calls(sheet: &[u8], block: Block, size: isize, history: &[u32], from: usize) -> u64 {
+    let mut i = from;
+    let mut count: u64 = 0;
+    while i < history.len() {
+        if !cut_call(sheet, block, size, history, i) {
+            return 0;
+        }
+        count = saturating_add(count, 1);
+        i += 1;
+    }
+    count
+}
