@@ -13,6 +13,7 @@ pub mod Trims
 pub mod Sums
 pub mod Walking
 pub mod Entering
+pub mod Standing
 pub mod Answers
 pub mod Matching
 pub mod Numbering
