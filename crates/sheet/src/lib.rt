@@ -2,9 +2,11 @@
 use leb128::Number;
 use season::Season;
 use verdict::Verdict;
+ghost use Prim.Native.Nat.{ℕ, _+_, _≤_};
 ghost use mathlib.Core.Path.{_≡_};
+ghost use mathlib.Core.List.{[], _∷_, map};
 ghost use lib.Dec.{ltb};
-ghost use lib.ListN.{length};
+ghost use lib.ListN.{length, getD};
 ghost use Rattle.sheet.specs.Numbers.{numbersAre, none, numbersRead};
 ghost use Rattle.sheet.specs.Fields.{limits, outside, seasonOf};
 ghost use Rattle.sheet.specs.Sheets.{fieldAtFault, fieldsVerdict, sheetIs, sheetOf};
@@ -163,6 +165,27 @@ fn lowest_outside(fields: &[u32; 40]) -> usize
     0
 }
 
+// The numbers of the twelve months, which stand behind a place.
+fn months(f: &[u32; 40], place: usize) -> [u32; 12]
+    requires { ⌜ place ≤ 27 ⌝ }
+    ensures { λ r. ⌜ r ≡ map (λ (k : ℕ). getD (now (f .entry)) (place + k) 0) (1 ∷ 2 ∷ 3 ∷ 4 ∷ 5 ∷ 6 ∷ 7 ∷ 8 ∷ 9 ∷ 10 ∷ 11 ∷ 12 ∷ []) ⌝ }
+{
+    [
+        f[place + 1],
+        f[place + 2],
+        f[place + 3],
+        f[place + 4],
+        f[place + 5],
+        f[place + 6],
+        f[place + 7],
+        f[place + 8],
+        f[place + 9],
+        f[place + 10],
+        f[place + 11],
+        f[place + 12],
+    ]
+}
+
 // A sheet's fields by name.
 fn season_of(f: &[u32; 40]) -> Season
     ensures { λ r. ⌜ r ≡ seasonOf (now (f .entry)) ⌝ }
@@ -177,34 +200,8 @@ fn season_of(f: &[u32; 40]) -> Season
         kcini: f[6],
         kcmid: f[7],
         kcend: f[8],
-        eto: [
-            f[9],
-            f[10],
-            f[11],
-            f[12],
-            f[13],
-            f[14],
-            f[15],
-            f[16],
-            f[17],
-            f[18],
-            f[19],
-            f[20],
-        ],
-        rain: [
-            f[21],
-            f[22],
-            f[23],
-            f[24],
-            f[25],
-            f[26],
-            f[27],
-            f[28],
-            f[29],
-            f[30],
-            f[31],
-            f[32],
-        ],
+        eto: months(f, 8),
+        rain: months(f, 20),
         water: f[33],
         sowing: f[34],
         full: f[35],
