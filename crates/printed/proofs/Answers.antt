@@ -1,8 +1,9 @@
 -- What the table call answers into a buffer of 222 numbers, as text.
-use Prim.Native.Nat.{ℕ, _+_, _*_, _≤_}
+use Prim.Native.Nat.{ℕ, _+_, _*_, _≤_, _<_}
 use mathlib.Core.Path.{_≡_, refl, sym, ap, _∙_}
 use mathlib.Core.List.{List, _++_}
 use native.Mathlib.Omega.{arith}
+use borrow.Author.Tests.{lt-ltb, le-ltb}
 use lib.ListN.{length, take, drop, length-append}
 use lib.Seq.{sets, sets-eq, length-sets, take-at, length-take-le}
 use Rattle.verdict.specs.declared.Verdict.{Verdict}
@@ -70,13 +71,17 @@ module _ (b out : List ℕ) (long : length out ≡ 222) where
           let j : value ≡ w = cc in
           rw (v, i, j)
 
+-- A text that is too short stays.
+pub too-short : (b text : List ℕ) → length text < 4096 → ((0, text) ≡ printedTo b text) × ((0 ≤ length text) × (0 ≡ length (take 0 text)))
+too-short b text h = (rw (lt-ltb (length text) 4096 h) refl, (omega arith, refl))
+
 -- A text that fits, stored from the start: the answer, and that its bytes can be lent.
-pub stored : (b t text l : List ℕ) (r : ℕ) → t ≡ printed b → length t ≤ length text → r ≡ length t → l ≡ sets text 0 t
+pub stored : (b t text l : List ℕ) (r : ℕ) → 4096 ≤ length text → t ≡ printed b → length t ≤ length text → r ≡ length t → l ≡ sets text 0 t
     → ((r, l) ≡ printedTo b text) × ((r ≤ length l) × (r ≡ length (take r l)))
-stored b t text l r p h e s =
+stored b t text l r long p h e s =
     let f : l ≡ t ++ drop (length t) text = s ∙ at-start t text h in
     let n : length l ≡ length text = ap length s ∙ length-sets text 0 t in
-    (rw (e, f, p) refl, (omega arith, sym (length-take-le r l (omega arith))))
+    (rw (le-ltb (length text) 4096 long, e, f, p) refl, (omega arith, sym (length-take-le r l (omega arith))))
 
 -- One text after another.
 pub joined : (x y text l m : List ℕ) (r q : ℕ) → r ≡ 0 + length x → l ≡ sets text 0 x → q ≡ r + length y → m ≡ sets l r y

@@ -2,7 +2,7 @@
 use Prim.Native.Nat.{ℕ, _+_, _%_}
 use mathlib.Core.Bool.{cond}
 use mathlib.Core.List.{List, [], _∷_, _++_}
-use lib.Dec.{eqb}
+use lib.Dec.{ltb, eqb}
 use lib.ListN.{length, drop}
 use Rattle.leb128.specs.Groups.{overDigits}
 use Rattle.decades.specs.Table.{table}
@@ -29,6 +29,7 @@ cells i (v ∷ vs) = cell v (ending i) ++ cells (i + 1) vs
 abbrev pub printed : List ℕ → List ℕ
 printed sheet = onSheet (λ number value. cell number 0x20 ++ cell value 0x0a) (λ s. cells 0 (table s)) sheet
 
--- How many bytes a sheet's text has, and a lent text with it at its start.
+-- How many bytes a sheet's text has, and a lent text with it at its start; none, and the lent text as it was, where that has fewer than 4,096.
 abbrev pub printedTo : List ℕ → List ℕ → ℕ × List ℕ
-printedTo sheet text = (length (printed sheet), printed sheet ++ drop (length (printed sheet)) text)
+printedTo sheet text =
+    cond (ltb (length text) 4096) (0, text) (length (printed sheet), printed sheet ++ drop (length (printed sheet)) text)

@@ -1,17 +1,20 @@
--- `printed::print_table` meets its contract: the table's numbers, or the refusal's two, a cell at a time.
+-- The text is too short; or the table's numbers, or the refusal's two, are written a cell at a time.
 use Prim.Native.Nat.{_^_, _<_}
-use native.Mathlib.Omega.{arith}
 use mathlib.Core.Path.{refl, sym, ap, _∙_}
+use mathlib.Core.List.{_++_}
+use native.Mathlib.Omega.{arith}
 use lib.ListN.{replicate, length-append}
 use denote.Ref.{now}
 use Rattle.decades.specs.declared.Tabled.{Tabled}
-use Rattle.printed.proofs.Texts.{cell-of-word}
-use Rattle.printed.proofs.Answers.{As-rows, rows-printed, refusal-printed, joined, stored}
 use Rattle.printed.specs.Text.{cell}
-use mathlib.Core.List.{_++_}
+use Rattle.printed.proofs.Texts.{cell-of-word}
+use Rattle.printed.proofs.Answers.{As-rows, rows-printed, refusal-printed, too-short, joined, stored}
 use borrow.Author.Needs.{needs}
 use Rattle.printed.proofs.print_table.Statement.{statement}
 use Rattle.printed.proofs.print_table.Tie as tie
+
+returns : tie.Need-returns
+returns c = too-short (now (c .before .before .before .args .sheet)) (now (c .before .before .before .args .text)) (c .if1 .taken)
 
 slice-aggregate-table : tie.Need-slice-aggregate-table
 slice-aggregate-table c = search needs
@@ -26,20 +29,24 @@ slice-aggregate-put-cells : tie.Need-slice-aggregate-put-cells
 slice-aggregate-put-cells c = search needs
 
 -- the rows that the table call answered
-rows-told : (c : tie.After-count) → As-rows (now (c .before .before .before .before .before .before .before .args .sheet)) (replicate 222 0) refl (c .count .given .0 .0) (c .before .before .before .table .last .1 .0)
+rows-told : (c : tie.After-count) →
+    let at-table = c .before .before .before in
+    As-rows (now (at-table .before .before .before .before .before .args .sheet)) (replicate 222 0) refl (c .count .given .0 .0) (at-table .table .last .1 .0)
 rows-told c =
-    let called = c .before .before .before in
-    rows-printed (now (called .before .before .before .before .args .sheet)) (replicate 222 0) refl _ (called .table .last .1 .0)
-    (ap (λ (r : Tabled). (r, called .table .last .1 .0)) (sym (c .count .given .1)) ∙ called .table .ensures)
+    let at-table = c .before .before .before in
+    rows-printed (now (at-table .before .before .before .before .before .args .sheet)) (replicate 222 0) refl _ (at-table .table .last .1 .0)
+    (ap (λ (r : Tabled). (r, at-table .table .last .1 .0)) (sym (c .count .given .1)) ∙ at-table .table .ensures)
 
 mul-put-cells : tie.Need-mul-put-cells
 mul-put-cells c = record { fits = omega (arith, rows-told (c .before .before .before) .few) }
 
 put-cells-requires : tie.Need-put-cells-requires
 put-cells-requires c κs =
-    let called = c .before .before .before .before .before .before in
-    let few = rows-told (c .before .before .before) .few in
-    (omega (arith, few, called .table .kept .1 .0), omega (arith, few, called .before .before .before .before .pre))
+    let at-count = c .before .before .before in
+    let at-table = at-count .before .before .before in
+    let at-if1 = at-table .before .before in
+    let few = rows-told (at-count) .few in
+    (omega (arith, few, at-table .table .kept .1 .0), omega (arith, few, at-if1 .if1 .left))
 
 enum-known-number : tie.Need-enum-known-number
 enum-known-number c = search needs
@@ -49,55 +56,66 @@ cast-put-cell c = search needs
 
 put-cell-requires : tie.Need-put-cell-requires
 put-cell-requires c κs =
-    let g = c .before .known-told2 .given in
-    let f : c .before .before .number .given .0 .0 < 2 ^ 64 = omega arith in
-    omega (arith, c .before .before .before .before .before .before .before .before .before .pre, cell-of-word _ 32 f)
+    let at-known-told2 = c .before in
+    let at-number = at-known-told2 .before in
+    let at-if1 = at-number .before .before .before .before .before in
+    let g = at-known-told2 .known-told2 .given in
+    let f : at-number .number .given .0 .0 < 2 ^ 64 = omega arith in
+    omega (arith, at-if1 .if1 .left, cell-of-word _ 32 f)
 
 put-cell-requires-2 : tie.Need-put-cell-requires-2
 put-cell-requires-2 c κs =
-    let n = c .before .before .before .before .before .before in
-    let called = c .before .before .before in
-    let g = c .before .before .before .before .before .known-told2 .given in
-    let f : n .number .given .0 .0 < 2 ^ 64 = omega arith in
-    let h : n .number .given .0 .1 .0 < 2 ^ 64 = omega arith in
-    omega (arith, n .before .before .before .before .before .before .before .pre, called .put-cell .ensures .0, called .put-cell .kept .0, cell-of-word _ 32 f, cell-of-word _ 10 h)
+    let at-put-cell = c .before .before .before in
+    let at-known-told2 = at-put-cell .before .before in
+    let at-number = at-known-told2 .before in
+    let at-if1 = at-number .before .before .before .before .before in
+    let g = at-known-told2 .known-told2 .given in
+    let f : at-number .number .given .0 .0 < 2 ^ 64 = omega arith in
+    let h : at-number .number .given .0 .1 .0 < 2 ^ 64 = omega arith in
+    omega (arith, at-if1 .if1 .left, at-put-cell .put-cell .ensures .0, at-put-cell .put-cell .kept .0, cell-of-word _ 32 f, cell-of-word _ 10 h)
 
 same-length : tie.Need-same-length
 same-length c = search needs
 
-returns : tie.Need-returns
-returns c =
-    let called = c .before .before in
-    let counted = called .before .before .before .before in
-    let start = counted .before .before .before .before .before .before .before in
-    stored (now (start .args .sheet)) _ (now (start .args .text)) _ _ (rows-told counted .text) (omega (arith, rows-told counted .few, called .put-cells .ensures .0, called .put-cells .ensures .2, start .pre)) (called .put-cells .ensures .0) (called .put-cells .ensures .1)
+returns-2 : tie.Need-returns-2
+returns-2 c =
+    let at-put-cells = c .before .before in
+    let at-count = at-put-cells .before .before .before .before in
+    let at-if1 = at-count .before .before .before .before .before in
+    let start = at-if1 .before .before .before in
+    let told = rows-told (at-count) in
+    stored (now (start .args .sheet)) _ (now (start .args .text)) _ _ (at-if1 .if1 .left) (told .text)
+    (omega (arith, told .few, at-put-cells .put-cells .ensures .0, at-put-cells .put-cells .ensures .2, at-if1 .if1 .left)) (at-put-cells .put-cells .ensures .0) (at-put-cells .put-cells .ensures .1)
 
 same-length-2 : tie.Need-same-length-2
 same-length-2 c = search needs
 
-returns-2 : tie.Need-returns-2
-returns-2 c =
-    let last = c .before .before in
-    let first = last .before .before .before .before in
-    let n = first .before .before .before in
-    let called = n .before .before .before in
-    let start = called .before .before .before .before in
-    let g = first .before .before .known-told2 .given in
-    let f : n .number .given .0 .0 < 2 ^ 64 = omega arith in
-    let h : n .number .given .0 .1 .0 < 2 ^ 64 = omega arith in
-    let x = cell (n .number .given .0 .0) 32 in
-    let y = cell (n .number .given .0 .1 .0) 10 in
-    let two = joined x y (now (start .args .text)) _ _ _ _ (first .put-cell .ensures .0) (first .put-cell .ensures .1) (last .put-cell2 .ensures .0) (last .put-cell2 .ensures .1) in
-    stored (now (start .args .sheet)) (x ++ y) (now (start .args .text)) _ _
-    (refusal-printed (now (start .args .sheet)) (replicate 222 0) refl _ _ (called .table .last .1 .0)
-    (ap (λ (r : Tabled). (r, called .table .last .1 .0)) (sym (n .number .given .1)) ∙ called .table .ensures))
-    (omega (arith, start .pre, length-append x y, cell-of-word (n .number .given .0 .0) 32 f, cell-of-word (n .number .given .0 .1 .0) 10 h))
+returns-3 : tie.Need-returns-3
+returns-3 c =
+    let at-put-cell2 = c .before .before in
+    let at-put-cell = at-put-cell2 .before .before .before .before in
+    let at-known-told2 = at-put-cell .before .before in
+    let at-number = at-known-told2 .before in
+    let at-table = at-number .before .before .before in
+    let at-if1 = at-table .before .before in
+    let start = at-if1 .before .before .before in
+    let g = at-known-told2 .known-told2 .given in
+    let f : at-number .number .given .0 .0 < 2 ^ 64 = omega arith in
+    let h : at-number .number .given .0 .1 .0 < 2 ^ 64 = omega arith in
+    let x = cell (at-number .number .given .0 .0) 32 in
+    let y = cell (at-number .number .given .0 .1 .0) 10 in
+    let two = joined x y (now (start .args .text)) _ _ _ _ (at-put-cell .put-cell .ensures .0) (at-put-cell .put-cell .ensures .1) (at-put-cell2 .put-cell2 .ensures .0) (at-put-cell2 .put-cell2 .ensures .1) in
+    stored (now (start .args .sheet)) (x ++ y) (now (start .args .text)) _ _ (at-if1 .if1 .left)
+    (refusal-printed (now (start .args .sheet)) (replicate 222 0) refl _ _ (at-table .table .last .1 .0)
+    (ap (λ (r : Tabled). (r, at-table .table .last .1 .0)) (sym (at-number .number .given .1)) ∙ at-table .table .ensures))
+    (omega (arith, at-if1 .if1 .left, length-append x y, cell-of-word (at-number .number .given .0 .0) 32 f, cell-of-word (at-number .number .given .0 .1 .0) 10 h))
     (two .0) (two .1)
 
 pub print-table-spec : {M : Type 1} → statement M
 print-table-spec =
     tie.close
     (tie.spec
+    returns
     slice-aggregate-table
     table-requires
     enum-known-count
@@ -109,6 +127,6 @@ print-table-spec =
     put-cell-requires
     put-cell-requires-2
     same-length
-    returns
+    returns-2
     same-length-2
-    returns-2)
+    returns-3)
