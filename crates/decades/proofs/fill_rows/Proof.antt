@@ -56,9 +56,6 @@ loop-holds c =
     let start = at-season-days .before .before in
     filling-start (start .pre .0) (at-season-days .season-days .ensures) (at-day-of .day-of .ensures) (at-crop-need .crop-need .ensures) (c .rain-before .ensures) (start .pre .1)
 
-days-alike-requires : tie.Need-days-alike-requires Inv-loop μ-loop
-days-alike-requires c κs = tt
-
 need-after-requires : tie.Need-need-after-requires Inv-loop μ-loop
 need-after-requires c κs =
     let at-loop = c .before in
@@ -128,9 +125,6 @@ walked-on c = walked (c .before .before .before .before)
 crop-need-requires-2 : tie.Need-crop-need-requires-2 Inv-loop μ-loop
 crop-need-requires-2 c κs = (walked-on c .rows .valid, next-on (walked-on c .rows) (goes-on c .0) (goes-on c .1))
 
-same-decade-requires : tie.Need-same-decade-requires Inv-loop μ-loop
-same-decade-requires c κs = tt
-
 add-need-2 : tie.Need-add-need-2 Inv-loop μ-loop
 add-need-2 c =
     let at-crop-need2 = c .before .before in
@@ -196,7 +190,7 @@ fill-rows-spec =
     crop-need-requires
     rain-before-requires
     loop-holds
-    days-alike-requires
+    (λ c κs. tt)
     need-after-requires
     add-need
     further-on-requires
@@ -207,7 +201,7 @@ fill-rows-spec =
     further-on-requires-2
     next-day-requires
     crop-need-requires-2
-    same-decade-requires
+    (λ c κs. tt)
     add-need-2
     loop-less
     loop-again

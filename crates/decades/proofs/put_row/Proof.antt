@@ -14,38 +14,11 @@ Inv-loop out₀ at efficiency gross numbers i₀ out i = Putting numbers out₀ 
 abbrev μ-loop : tie.MeasureT-loop
 μ-loop out₀ at efficiency gross numbers i₀ out i = 6 - i
 
-saturating-sub-requires : tie.Need-saturating-sub-requires Inv-loop μ-loop
-saturating-sub-requires c κs = search needs
-
-gross-of-requires : tie.Need-gross-of-requires Inv-loop μ-loop
-gross-of-requires c κs = search needs
-
-points-requires : tie.Need-points-requires Inv-loop μ-loop
-points-requires c κs = search needs
-
 loop-holds : tie.Need-loop-holds Inv-loop μ-loop
 loop-holds c = record { few = omega arith; room = c .before .before .before .before .pre .0; stored = refl }
 
-mul-out : tie.Need-mul-out Inv-loop μ-loop
-mul-out c = omega arith
-
-array-read-out : tie.Need-array-read-out Inv-loop μ-loop
-array-read-out c = search needs
-
-add-out : tie.Need-add-out Inv-loop μ-loop
-add-out c = omega arith
-
-mul-out-2 : tie.Need-mul-out-2 Inv-loop μ-loop
-mul-out-2 c = omega arith
-
 slice-write-out : tie.Need-slice-write-out Inv-loop μ-loop
 slice-write-out c = putting-place (c .before .loop .inv) (c .loop-test .taken)
-
-add-i : tie.Need-add-i Inv-loop μ-loop
-add-i c = omega arith
-
-loop-less : tie.Need-loop-less Inv-loop μ-loop
-loop-less c = omega arith
 
 loop-again : tie.Need-loop-again Inv-loop μ-loop
 loop-again c = putting-more (c .before .loop .inv) (c .loop-test .taken)
@@ -66,17 +39,17 @@ put-row-spec =
     (tie.spec
     Inv-loop
     μ-loop
-    saturating-sub-requires
-    gross-of-requires
-    points-requires
+    (λ c κs. search needs)
+    (λ c κs. search needs)
+    (λ c κs. search needs)
     loop-holds
-    mul-out
-    array-read-out
-    add-out
-    mul-out-2
+    (λ c. omega arith)
+    (λ c. search needs)
+    (λ c. omega arith)
+    (λ c. omega arith)
     slice-write-out
-    add-i
-    loop-less
+    (λ c. omega arith)
+    (λ c. omega arith)
     loop-again
     same-length
     returns)

@@ -13,8 +13,5 @@ rain-to-requires c κs =
     let p = c .before .pre in
     (p .0, (p .1, omega (arith, day-small (p .0) (p .1))))
 
-returns : tie.Need-returns
-returns c = search needs
-
 pub rain-before-spec : {M : Type 1} → statement M
-rain-before-spec = tie.close (tie.spec sub-rain-to rain-to-requires returns)
+rain-before-spec = tie.close (tie.spec sub-rain-to rain-to-requires (λ c. search needs))

@@ -8,18 +8,9 @@ use borrow.Author.Needs.{needs}
 use Rattle.decades.proofs.row_count.Statement.{statement}
 use Rattle.decades.proofs.row_count.Tie as tie
 
-season-days-requires : tie.Need-season-days-requires
-season-days-requires c κs = search needs
-
-day-of-requires : tie.Need-day-of-requires
-day-of-requires c κs = search needs
-
 -- The last day.
 last-of : (c : tie.After-day-of) → c .day-of .result ≡ dayOf (c .before .before .args .s) (seasonDays (c .before .before .args .s))
 last-of c = c .day-of .ensures ∙ ap (dayOf _) (c .before .season-days .ensures)
-
-decade-number-requires : tie.Need-decade-number-requires
-decade-number-requires c κs = search needs
 
 decade-number-requires-2 : tie.Need-decade-number-requires-2
 decade-number-requires-2 c κs =
@@ -48,9 +39,6 @@ sub-result c =
     let s = d .before .before .args .s in
     omega (arith, c .before .before .before .decade-number2 .ensures, c .before .before .before .before .decade-number .ensures, small-decades s (d .before .before .pre) (d .day-of .result) (last-of d))
 
-cast-result : tie.Need-cast-result
-cast-result c = search needs
-
 returns : tie.Need-returns
 returns c =
     let d = c .before .before .before .before .before in
@@ -70,9 +58,6 @@ sub-result-2 c =
     let s = d .before .before .args .s in
     omega (arith, c .before .before .before .decade-number2 .ensures, c .before .before .before .before .decade-number .ensures, decades-in-order s (d .before .before .pre) (d .day-of .result) (last-of d) (rw (← (c .before .before .date-number .ensures), ← (c .before .date-number2 .ensures)) (c .if1 .left)))
 
-cast-result-2 : tie.Need-cast-result-2
-cast-result-2 c = search needs
-
 returns-2 : tie.Need-returns-2
 returns-2 c =
     let d = c .before .before .before .before .before in
@@ -84,17 +69,17 @@ pub row-count-spec : {M : Type 1} → statement M
 row-count-spec =
     tie.close
     (tie.spec
-    season-days-requires
-    day-of-requires
-    decade-number-requires
+    (λ c κs. search needs)
+    (λ c κs. search needs)
+    (λ c κs. search needs)
     decade-number-requires-2
     date-number-requires
     date-number-requires-2
     add-result
     sub-result
-    cast-result
+    (λ c. search needs)
     returns
     add-result-2
     sub-result-2
-    cast-result-2
+    (λ c. search needs)
     returns-2)

@@ -7,9 +7,6 @@ use borrow.Author.Needs.{needs}
 use Rattle.decades.proofs.table.Statement.{statement}
 use Rattle.decades.proofs.table.Tie as tie
 
-row-count-requires : tie.Need-row-count-requires
-row-count-requires c κs = search needs
-
 mul-if1 : tie.Need-mul-if1
 mul-if1 c =
     record { fits = rw (c .row-count .ensures) (omega (arith, rows-at-most _ (c .before .before .pre))) }
@@ -17,12 +14,6 @@ mul-if1 c =
 returns : tie.Need-returns
 returns c =
     sym (tabled-short _ _ (rw (← (c .before .row-count .ensures)) (c .if1 .taken)))
-
-fill-rows-requires : tie.Need-fill-rows-requires
-fill-rows-requires c κs = search needs
-
-same-length : tie.Need-same-length
-same-length c = search needs
 
 returns-2 : tie.Need-returns-2
 returns-2 c =
@@ -33,4 +24,4 @@ returns-2 c =
 pub table-spec : {M : Type 1} → statement M
 table-spec =
     tie.close
-    (tie.spec row-count-requires mul-if1 returns fill-rows-requires same-length returns-2)
+    (tie.spec (λ c κs. search needs) mul-if1 returns (λ c κs. search needs) (λ c. search needs) returns-2)

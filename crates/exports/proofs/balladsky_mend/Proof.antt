@@ -11,9 +11,6 @@ use borrow.Author.Needs.{needs}
 use Rattle.exports.proofs.balladsky_mend.Statement.{statement}
 use Rattle.exports.proofs.balladsky_mend.Tie as tie
 
-mend-requires : tie.Need-mend-requires
-mend-requires c κs = search needs
-
 enum-told : tie.Need-enum-told
 enum-told c = search needs
 
@@ -23,9 +20,6 @@ put-places-requires c κs =
     let at-mend = at-enum-told .before .before .before in
     let small = holds-by (mend-case _ (at-enum-told .enum-told .given .1)) (at-mend .mend .ensures) SmallMended (mended-small _ _) in
     (small .count, small .places 0, small .places 1, small .places 2)
-
-enum-known-verdict : tie.Need-enum-known-verdict
-enum-known-verdict c = search needs
 
 put-refusal-requires : tie.Need-put-refusal-requires
 put-refusal-requires c κs =
@@ -52,10 +46,10 @@ pub balladsky-mend-spec : {M : Type 1} → statement M
 balladsky-mend-spec =
     tie.close
     (tie.spec
-    mend-requires
+    (λ c κs. search needs)
     enum-told
     put-places-requires
-    enum-known-verdict
+    (λ c. search needs)
     put-refusal-requires
     returns
     returns-2)

@@ -8,29 +8,17 @@ use borrow.Author.Needs.{needs}
 use Rattle.exports.proofs.balladsky_open.Statement.{statement}
 use Rattle.exports.proofs.balladsky_open.Tie as tie
 
-open-requires : tie.Need-open-requires
-open-requires c κs = search needs
-
-enum-known-l : tie.Need-enum-known-l
-enum-known-l c = search needs
-
 put-ledger-requires : tie.Need-put-ledger-requires
 put-ledger-requires c κs =
     let at-l = c .before .before in
     let at-open = at-l .before .before in
     (omega arith, holds-by (at-l .l .given .1) (at-open .«open» .ensures) SmallOpening (opened-small _ _))
 
-enum-known-l-2 : tie.Need-enum-known-l-2
-enum-known-l-2 c = search needs
-
 put-ledger-requires-2 : tie.Need-put-ledger-requires-2
 put-ledger-requires-2 c κs =
     let at-l2 = c .before .before in
     let at-open = at-l2 .before .before in
     let small = holds-by (at-l2 .l2 .given .1) (at-open .«open» .ensures) SmallOpening (opened-small _ _) in (small .1, small .0)
-
-enum-known-number : tie.Need-enum-known-number
-enum-known-number c = search needs
 
 put-refusal-requires : tie.Need-put-refusal-requires
 put-refusal-requires c κs =
@@ -60,12 +48,12 @@ pub balladsky-open-spec : {M : Type 1} → statement M
 balladsky-open-spec =
     tie.close
     (tie.spec
-    open-requires
-    enum-known-l
+    (λ c κs. search needs)
+    (λ c. search needs)
     put-ledger-requires
-    enum-known-l-2
+    (λ c. search needs)
     put-ledger-requires-2
-    enum-known-number
+    (λ c. search needs)
     put-refusal-requires
     returns
     returns-2

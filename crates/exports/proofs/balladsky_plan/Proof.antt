@@ -10,17 +10,11 @@ use borrow.Author.Needs.{needs}
 use Rattle.exports.proofs.balladsky_plan.Statement.{statement}
 use Rattle.exports.proofs.balladsky_plan.Tie as tie
 
-plan-requires : tie.Need-plan-requires
-plan-requires c κs = search needs
-
 put-planned-requires : tie.Need-put-planned-requires
 put-planned-requires c κs = rw (ap (λ (a : Planned × List ℕ). a .0) (c .before .before .plan .ensures)) (planned-small _ _ _)
-
-same-length : tie.Need-same-length
-same-length c = search needs
 
 returns : tie.Need-returns
 returns c = both-by numbersOf _ refl (c .before .before .before .plan .ensures) (c .put-planned .ensures)
 
 pub balladsky-plan-spec : {M : Type 1} → statement M
-balladsky-plan-spec = tie.close (tie.spec plan-requires put-planned-requires same-length returns)
+balladsky-plan-spec = tie.close (tie.spec (λ c κs. search needs) put-planned-requires (λ c. search needs) returns)

@@ -11,20 +11,11 @@ use borrow.Author.Needs.{needs}
 use Rattle.exports.proofs.balladsky_table.Statement.{statement}
 use Rattle.exports.proofs.balladsky_table.Tie as tie
 
-table-requires : tie.Need-table-requires
-table-requires c κs = search needs
-
-enum-known-count : tie.Need-enum-known-count
-enum-known-count c = search needs
-
 put-rows-requires : tie.Need-put-rows-requires
 put-rows-requires c κs =
     let at-count = c .before .before in
     let at-table = at-count .before .before .before .before in
     holds-by (at-count .count .given .1) (ap (λ (a : Tabled × List ℕ). a .0) (at-table .table .ensures)) SmallTabled (tabled-small _ _)
-
-enum-known-number : tie.Need-enum-known-number
-enum-known-number c = search needs
 
 put-refusal-requires : tie.Need-put-refusal-requires
 put-refusal-requires c κs =
@@ -32,17 +23,11 @@ put-refusal-requires c κs =
     let at-table = at-number .before .before .before .before in
     holds-by (at-number .number .given .1) (ap (λ (a : Tabled × List ℕ). a .0) (at-table .table .ensures)) SmallTabled (tabled-small _ _)
 
-same-length : tie.Need-same-length
-same-length c = search needs
-
 returns : tie.Need-returns
 returns c =
     let at-count = c .before .before .before in
     let at-table = at-count .before .before .before .before in
     both-by numbersOf _ (at-count .count .given .1) (at-table .table .ensures) (c .put-rows .ensures)
-
-same-length-2 : tie.Need-same-length-2
-same-length-2 c = search needs
 
 returns-2 : tie.Need-returns-2
 returns-2 c =
@@ -54,12 +39,12 @@ pub balladsky-table-spec : {M : Type 1} → statement M
 balladsky-table-spec =
     tie.close
     (tie.spec
-    table-requires
-    enum-known-count
+    (λ c κs. search needs)
+    (λ c. search needs)
     put-rows-requires
-    enum-known-number
+    (λ c. search needs)
     put-refusal-requires
-    same-length
+    (λ c. search needs)
     returns
-    same-length-2
+    (λ c. search needs)
     returns-2)

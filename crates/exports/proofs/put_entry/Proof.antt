@@ -13,9 +13,6 @@ use borrow.Author.Needs.{needs}
 use Rattle.exports.proofs.put_entry.Statement.{statement}
 use Rattle.exports.proofs.put_entry.Tie as tie
 
-record-requires : tie.Need-record-requires
-record-requires c κs = search needs
-
 enum-told : tie.Need-enum-told
 enum-told c = search needs
 
@@ -24,9 +21,6 @@ put-stores-requires c κs =
     let at-enum-told = c .before in
     let at-record = at-enum-told .before .before .before .before in
     let small = holds-by (entry-case _ (at-enum-told .enum-told .given .1)) (at-record .«record» .ensures) SmallRecorded (recorded-small _ _ _) in (small .start, small .count)
-
-enum-known-verdict : tie.Need-enum-known-verdict
-enum-known-verdict c = search needs
 
 put-refusal-requires : tie.Need-put-refusal-requires
 put-refusal-requires c κs =
@@ -55,10 +49,10 @@ pub put-entry-spec : {M : Type 1} → statement M
 put-entry-spec =
     tie.close
     (tie.spec
-    record-requires
+    (λ c κs. search needs)
     enum-told
     put-stores-requires
-    enum-known-verdict
+    (λ c. search needs)
     put-refusal-requires
     returns
     returns-2)

@@ -11,18 +11,6 @@ use borrow.Author.Needs.{needs}
 use Rattle.exports.proofs.put_planned.Statement.{statement}
 use Rattle.exports.proofs.put_planned.Tie as tie
 
-enum-known-p : tie.Need-enum-known-p
-enum-known-p c = search needs
-
-points-requires : tie.Need-points-requires
-points-requires c κs = search needs
-
-put-totals-requires : tie.Need-put-totals-requires
-put-totals-requires c κs = search needs
-
-enum-known-p-2 : tie.Need-enum-known-p-2
-enum-known-p-2 c = search needs
-
 put-refusal-requires : tie.Need-put-refusal-requires
 put-refusal-requires c κs =
     let at-p2 = c .before .before in
@@ -45,10 +33,10 @@ pub put-planned-spec : {M : Type 1} → statement M
 put-planned-spec =
     tie.close
     (tie.spec
-    enum-known-p
-    points-requires
-    put-totals-requires
-    enum-known-p-2
+    (λ c. search needs)
+    (λ c κs. search needs)
+    (λ c κs. search needs)
+    (λ c. search needs)
     put-refusal-requires
     returns
     returns-2)

@@ -13,12 +13,6 @@ use Rattle.leb128.proofs.read.Tie as tie
 returns : tie.Need-returns
 returns c = sym (decode-none _ (c .if1 .taken))
 
-shared-slice-read-first : tie.Need-shared-slice-read-first
-shared-slice-read-first c = search needs
-
-cast-t8 : tie.Need-cast-t8
-cast-t8 c = search needs
-
 returns-2 : tie.Need-returns-2
 returns-2 c = sym (decode-one _ (c .before .before .if1 .left) (c .if2 .taken))
 
@@ -32,12 +26,6 @@ returns-3 c = sym (at-end (one (c .before)) (omega arith))
 -- there is a second
 second : (c : tie.Else3) → 1 < length (c .before .before .before .before .before .args .s .now)
 second c = omega (arith, c .before .before .before .if1 .left, c .if3 .left)
-
-shared-slice-read-second : tie.Need-shared-slice-read-second
-shared-slice-read-second c = search needs
-
-joined-requires : tie.Need-joined-requires
-joined-requires c κs = search needs
 
 returns-4 : tie.Need-returns-4
 returns-4 c =
@@ -55,12 +43,6 @@ returns-6 c =
     let n = k .before in
     sym (at-end (at-more (one (n .before)) (second n) (ends-more _ (c .before .before .if4 .left) (c .before .if5 .left)) (omega (arith, k .shared-slice-known3 .given 1)) (omega arith)) (omega arith))
 
-shared-slice-read-read-three : tie.Need-shared-slice-read-read-three
-shared-slice-read-read-three c = search needs
-
-read-three-requires : tie.Need-read-three-requires
-read-three-requires c κs = search needs
-
 returns-7 : tie.Need-returns-7
 returns-7 c =
     let n = c .before .before in
@@ -71,15 +53,15 @@ read-spec =
     tie.close
     (tie.spec
     returns
-    shared-slice-read-first
-    cast-t8
+    (λ c. search needs)
+    (λ c. search needs)
     returns-2
     returns-3
-    shared-slice-read-second
-    joined-requires
+    (λ c. search needs)
+    (λ c κs. search needs)
     returns-4
     returns-5
     returns-6
-    shared-slice-read-read-three
-    read-three-requires
+    (λ c. search needs)
+    (λ c κs. search needs)
     returns-7)

@@ -10,24 +10,6 @@ use borrow.Author.Needs.{needs}
 use Rattle.leb128.proofs.read_at.Statement.{statement}
 use Rattle.leb128.proofs.read_at.Tie as tie
 
-shared-slice-read-read-three : tie.Need-shared-slice-read-read-three
-shared-slice-read-read-three c = search needs
-
-add-read-three : tie.Need-add-read-three
-add-read-three c = search needs
-
-shared-slice-read-read-three-2 : tie.Need-shared-slice-read-read-three-2
-shared-slice-read-read-three-2 c = search needs
-
-add-read-three-2 : tie.Need-add-read-three-2
-add-read-three-2 c = search needs
-
-shared-slice-read-read-three-3 : tie.Need-shared-slice-read-read-three-3
-shared-slice-read-read-three-3 c = search needs
-
-read-three-requires : tie.Need-read-three-requires
-read-three-requires c κs = search needs
-
 returns : tie.Need-returns
 returns c =
     let n = c .before .before .before .before in
@@ -38,18 +20,6 @@ returns-2 c =
     let a = c .before .before .before .args in
     sym (decode-none _ (rw (drop-of-length-le (now (a .s)) {i = a .at} (omega arith))))
 
-sub-read : tie.Need-sub-read
-sub-read c = search needs
-
-part-read-start : tie.Need-part-read-start
-part-read-start c = search needs
-
-part-read-end : tie.Need-part-read-end
-part-read-end c = search needs
-
-read-requires : tie.Need-read-requires
-read-requires c κs = search needs
-
 returns-3 : tie.Need-returns-3
 returns-3 c =
     let a = c .before .before .before .before .before .args in
@@ -59,16 +29,16 @@ pub read-at-spec : {M : Type 1} → statement M
 read-at-spec =
     tie.close
     (tie.spec
-    shared-slice-read-read-three
-    add-read-three
-    shared-slice-read-read-three-2
-    add-read-three-2
-    shared-slice-read-read-three-3
-    read-three-requires
+    (λ c. search needs)
+    (λ c. search needs)
+    (λ c. search needs)
+    (λ c. search needs)
+    (λ c. search needs)
+    (λ c κs. search needs)
     returns
     returns-2
-    sub-read
-    part-read-start
-    part-read-end
-    read-requires
+    (λ c. search needs)
+    (λ c. search needs)
+    (λ c. search needs)
+    (λ c κs. search needs)
     returns-3)

@@ -19,9 +19,6 @@ returns c =
 one : (c : tie.Else1) → SoFar (c .before .args .a ∷ c .before .args .b ∷ c .before .args .c ∷ []) (c .before .args .a % 128) 1
 one c = first-more (omega arith) (c .if1 .left) (omega (arith, c .before .fits .a .fits))
 
-joined-requires : tie.Need-joined-requires
-joined-requires c κs = search needs
-
 returns-2 : tie.Need-returns-2
 returns-2 c =
     ap (λ (x : ℕ). Whole x 2) (c .joined .ensures) ∙ sym (ends-two (one (c .before .before)) (omega arith) (c .before .if2 .taken))
@@ -37,9 +34,6 @@ two : (c : tie.Else3)
 two c =
     at-more (one (c .before .before)) (omega arith) (ends-more _ (c .before .if2 .left) (c .if3 .left)) (omega (arith, c .before .before .before .fits .b .fits)) (omega arith)
 
-joined-requires-2 : tie.Need-joined-requires-2
-joined-requires-2 c κs = search needs
-
 returns-4 : tie.Need-returns-4
 returns-4 c =
     ap (λ (x : ℕ). Whole x 3) (c .joined2 .ensures) ∙ sym (ends-three (two (c .before .before)) (omega arith) (c .before .if4 .taken))
@@ -50,4 +44,4 @@ returns-5 c = sym (at-third (two (c .before)) (omega arith) (c .if4 .left))
 pub read-three-spec : {M : Type 1} → statement M
 read-three-spec =
     tie.close
-    (tie.spec returns joined-requires returns-2 returns-3 joined-requires-2 returns-4 returns-5)
+    (tie.spec returns (λ c κs. search needs) returns-2 returns-3 (λ c κs. search needs) returns-4 returns-5)

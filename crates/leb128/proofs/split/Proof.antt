@@ -13,9 +13,6 @@ Inv-loop n count bytes₀ rest₀ i₀ bytes rest i = Split n bytes rest i
 abbrev μ-loop : tie.MeasureT-loop
 μ-loop n count bytes₀ rest₀ i₀ bytes rest i = rest
 
-group-count-requires : tie.Need-group-count-requires Inv-loop μ-loop
-group-count-requires c κs = search needs
-
 loop-holds : tie.Need-loop-holds Inv-loop μ-loop
 loop-holds c = none-split (c .before .args .n)
 
@@ -28,14 +25,8 @@ array-write-bytes c = split-few (c .before .before .before .fits .n .fits) (c .b
 add-i : tie.Need-add-i Inv-loop μ-loop
 add-i c = omega (arith, split-few (c .before .before .before .fits .n .fits) (c .before .loop .inv))
 
-loop-less : tie.Need-loop-less Inv-loop μ-loop
-loop-less c = omega arith
-
 loop-again : tie.Need-loop-again Inv-loop μ-loop
 loop-again c = split-more (c .before .before .before .fits .n .fits) (c .before .loop .inv) (c .loop-test .taken)
-
-cast-bytes-2 : tie.Need-cast-bytes-2 Inv-loop μ-loop
-cast-bytes-2 c = omega arith
 
 array-write-bytes-2 : tie.Need-array-write-bytes-2 Inv-loop μ-loop
 array-write-bytes-2 c = split-few (c .before .before .before .fits .n .fits) (c .before .loop .inv)
@@ -53,13 +44,13 @@ split-spec =
     (tie.spec
     Inv-loop
     μ-loop
-    group-count-requires
+    (λ c κs. search needs)
     loop-holds
     cast-bytes
     array-write-bytes
     add-i
-    loop-less
+    (λ c. omega arith)
     loop-again
-    cast-bytes-2
+    (λ c. omega arith)
     array-write-bytes-2
     returns)

@@ -12,18 +12,6 @@ done c =
     let start = c .before .before .before .before .before .before .before .before in
     finished (start .args .waiting) (start .pre .0) (start .pre .1 .0) (start .pre .1 .1 .0) (c .before .before .before .before .draw-depths .ensures) (c .enum-told .given .1)
 
-draw-depths-requires : tie.Need-draw-depths-requires
-draw-depths-requires c κs = search needs
-
-enum-known-drawn : tie.Need-enum-known-drawn
-enum-known-drawn c = search needs
-
-cast-t14 : tie.Need-cast-t14
-cast-t14 c = search needs
-
-same-length : tie.Need-same-length
-same-length c = search needs
-
 returns : tie.Need-returns
 returns c =
     let at-drawn = c .before in
@@ -52,12 +40,6 @@ copy-depths-requires c κs =
     let start = at-enum-told .before .before .before .before .before .before .before .before in
     omega (arith, done (at-enum-told) .size, start .pre .1 .1 .1 .1)
 
-same-length-2 : tie.Need-same-length-2
-same-length-2 c = search needs
-
-same-length-3 : tie.Need-same-length-3
-same-length-3 c = search needs
-
 returns-2 : tie.Need-returns-2
 returns-2 c =
     let at-copy-depths = c .before .before in
@@ -72,16 +54,16 @@ pub answer-from-spec : {M : Type 1} → statement M
 answer-from-spec =
     tie.close
     (tie.spec
-    draw-depths-requires
-    enum-known-drawn
-    cast-t14
-    same-length
+    (λ c κs. search needs)
+    (λ c. search needs)
+    (λ c. search needs)
+    (λ c. search needs)
     returns
     enum-told
     irrigated-days-requires
     net-total-requires
     gross-of-requires
     copy-depths-requires
-    same-length-2
-    same-length-3
+    (λ c. search needs)
+    (λ c. search needs)
     returns-2)

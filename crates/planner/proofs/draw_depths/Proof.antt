@@ -59,9 +59,6 @@ rain-to-requires c κs =
 sub-week : tie.Need-sub-week Inv-loop μ-loop
 sub-week c = c .before .before .before .before .before .pre .1 .0 .from
 
-track-from-requires : tie.Need-track-from-requires Inv-loop μ-loop
-track-from-requires c κs = tt
-
 loop-holds : tie.Need-loop-holds Inv-loop μ-loop
 loop-holds c =
     let at-rain-to = c .before in
@@ -149,9 +146,6 @@ next-day-requires c κs =
     let w = c .before .before .before .before .before .before .before .before .before .before .before .loop .inv .coming in
     (w .valid, w .day)
 
-on-day-requires : tie.Need-on-day-requires Inv-loop μ-loop
-on-day-requires c κs = tt
-
 loop-less-2 : tie.Need-loop-less-2 Inv-loop μ-loop
 loop-less-2 c =
     let at-next-day = c .before in
@@ -180,7 +174,7 @@ draw-depths-spec =
     sub-rain-to
     rain-to-requires
     sub-week
-    track-from-requires
+    (λ c κs. tt)
     loop-holds
     rain-to-requires-2
     sub-outlook-on
@@ -199,6 +193,6 @@ draw-depths-spec =
     same-length-2
     returns-2
     next-day-requires
-    on-day-requires
+    (λ c κs. tt)
     loop-less-2
     loop-again-2)

@@ -19,28 +19,10 @@ loop-holds : tie.Need-loop-holds Inv-loop μ-loop
 unfolding irrigated
 loop-holds c = (omega arith, refl, omega arith)
 
-mul-depth : tie.Need-mul-depth Inv-loop μ-loop
-mul-depth c = omega arith
-
-shared-slice-read-depth : tie.Need-shared-slice-read-depth Inv-loop μ-loop
-shared-slice-read-depth c = omega arith
-
-add-i : tie.Need-add-i Inv-loop μ-loop
-add-i c = omega arith
-
-add-days : tie.Need-add-days Inv-loop μ-loop
-add-days c = omega arith
-
-loop-less : tie.Need-loop-less Inv-loop μ-loop
-loop-less c = omega arith
-
 loop-again : tie.Need-loop-again Inv-loop μ-loop
 loop-again c =
     let xs = c .before .before .before .before .args .depths .now in
     (omega arith, omega (arith, irrigated-wet xs (c .before .before .before .loop .i) (omega arith) (c .if1 .taken)), omega arith)
-
-loop-less-2 : tie.Need-loop-less-2 Inv-loop μ-loop
-loop-less-2 c = omega arith
 
 loop-again-2 : tie.Need-loop-again-2 Inv-loop μ-loop
 loop-again-2 c =
@@ -59,12 +41,12 @@ irrigated-days-spec =
     Inv-loop
     μ-loop
     loop-holds
-    mul-depth
-    shared-slice-read-depth
-    add-i
-    add-days
-    loop-less
+    (λ c. omega arith)
+    (λ c. omega arith)
+    (λ c. omega arith)
+    (λ c. omega arith)
+    (λ c. omega arith)
     loop-again
-    loop-less-2
+    (λ c. omega arith)
     loop-again-2
     returns)

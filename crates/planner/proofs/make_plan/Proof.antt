@@ -8,26 +8,11 @@ use borrow.Author.Needs.{needs}
 use Rattle.planner.proofs.make_plan.Statement.{statement}
 use Rattle.planner.proofs.make_plan.Tie as tie
 
-season-days-requires : tie.Need-season-days-requires
-season-days-requires c κs = search needs
-
-add-count : tie.Need-add-count
-add-count c = search needs
-
-sub-count : tie.Need-sub-count
-sub-count c = search needs
-
-cast-count : tie.Need-cast-count
-cast-count c = search needs
-
 returns : tie.Need-returns
 returns c =
     let at-season-days = c .before in
     let start = at-season-days .before .before in
     answer-short (start .args .s) (start .args .today) (start .args .waiting) (start .args .depletion) (now (start .args .depths)) (rw (at-season-days .season-days .ensures) at (c .if1 .taken))
-
-array-borrow-prefix-draft : tie.Need-array-borrow-prefix-draft
-array-borrow-prefix-draft c = search needs
 
 slice-aggregate-answer-from : tie.Need-slice-aggregate-answer-from
 slice-aggregate-answer-from c = draft-length _ (omega (arith, c .before .before .season-days .ensures))
@@ -38,9 +23,6 @@ answer-from-requires c κs =
     let at-season-days = at-if1 .before in
     let start = at-season-days .before .before in
     (start .pre .0, (start .pre .1 .0, (start .pre .1 .1, (draft-zeros _ _ (ap (λ n. n + 1 - start .args .today) (at-season-days .season-days .ensures)) (omega arith), omega (arith, at-if1 .if1 .left, at-season-days .season-days .ensures)))))
-
-same-length : tie.Need-same-length
-same-length c = search needs
 
 returns-2 : tie.Need-returns-2
 returns-2 c =
@@ -55,13 +37,13 @@ pub make-plan-spec : {M : Type 1} → statement M
 make-plan-spec =
     tie.close
     (tie.spec
-    season-days-requires
-    add-count
-    sub-count
-    cast-count
+    (λ c κs. search needs)
+    (λ c. search needs)
+    (λ c. search needs)
+    (λ c. search needs)
     returns
-    array-borrow-prefix-draft
+    (λ c. search needs)
     slice-aggregate-answer-from
     answer-from-requires
-    same-length
+    (λ c. search needs)
     returns-2)

@@ -20,23 +20,11 @@ loop-holds : tie.Need-loop-holds Inv-loop μ-loop
 unfolding sum
 loop-holds c = (omega arith, refl)
 
-mul-total : tie.Need-mul-total Inv-loop μ-loop
-mul-total c = omega arith
-
-shared-slice-read-total : tie.Need-shared-slice-read-total Inv-loop μ-loop
-shared-slice-read-total c = omega arith
-
 add-total : tie.Need-add-total Inv-loop μ-loop
 add-total c =
     let xs = c .before .before .before .args .depths .now in
     let i = c .before .before .loop .i in
     record { fits = omega (arith, sum-more xs i (omega arith), sum-part xs (i + 1)) }
-
-add-i : tie.Need-add-i Inv-loop μ-loop
-add-i c = omega arith
-
-loop-less : tie.Need-loop-less Inv-loop μ-loop
-loop-less c = omega arith
 
 loop-again : tie.Need-loop-again Inv-loop μ-loop
 loop-again c = (omega arith, omega (arith, sum-more (c .before .before .before .args .depths .now) (c .before .before .loop .i) (omega arith)))
@@ -53,10 +41,10 @@ net-total-spec =
     Inv-loop
     μ-loop
     loop-holds
-    mul-total
-    shared-slice-read-total
+    (λ c. omega arith)
+    (λ c. omega arith)
     add-total
-    add-i
-    loop-less
+    (λ c. omega arith)
+    (λ c. omega arith)
     loop-again
     returns)

@@ -16,18 +16,6 @@ use Rattle.printed.proofs.print_table.Tie as tie
 returns : tie.Need-returns
 returns c = too-short (now (c .before .before .before .args .sheet)) (now (c .before .before .before .args .text)) (c .if1 .taken)
 
-slice-aggregate-table : tie.Need-slice-aggregate-table
-slice-aggregate-table c = search needs
-
-table-requires : tie.Need-table-requires
-table-requires c κs = search needs
-
-enum-known-count : tie.Need-enum-known-count
-enum-known-count c = search needs
-
-slice-aggregate-put-cells : tie.Need-slice-aggregate-put-cells
-slice-aggregate-put-cells c = search needs
-
 -- the rows that the table call answered
 rows-told : (c : tie.After-count) →
     let at-table = c .before .before .before in
@@ -47,12 +35,6 @@ put-cells-requires c κs =
     let at-if1 = at-table .before .before in
     let few = rows-told (at-count) .few in
     (omega (arith, few, at-table .table .kept .1 .0), omega (arith, few, at-if1 .if1 .left))
-
-enum-known-number : tie.Need-enum-known-number
-enum-known-number c = search needs
-
-cast-put-cell : tie.Need-cast-put-cell
-cast-put-cell c = search needs
 
 put-cell-requires : tie.Need-put-cell-requires
 put-cell-requires c κs =
@@ -74,9 +56,6 @@ put-cell-requires-2 c κs =
     let h : at-number .number .given .0 .1 .0 < 2 ^ 64 = omega arith in
     omega (arith, at-if1 .if1 .left, at-put-cell .put-cell .ensures .0, at-put-cell .put-cell .kept .0, cell-of-word _ 32 f, cell-of-word _ 10 h)
 
-same-length : tie.Need-same-length
-same-length c = search needs
-
 returns-2 : tie.Need-returns-2
 returns-2 c =
     let at-put-cells = c .before .before in
@@ -86,9 +65,6 @@ returns-2 c =
     let told = rows-told (at-count) in
     stored (now (start .args .sheet)) _ (now (start .args .text)) _ _ (at-if1 .if1 .left) (told .text)
     (omega (arith, told .few, at-put-cells .put-cells .ensures .0, at-put-cells .put-cells .ensures .2, at-if1 .if1 .left)) (at-put-cells .put-cells .ensures .0) (at-put-cells .put-cells .ensures .1)
-
-same-length-2 : tie.Need-same-length-2
-same-length-2 c = search needs
 
 returns-3 : tie.Need-returns-3
 returns-3 c =
@@ -116,17 +92,17 @@ print-table-spec =
     tie.close
     (tie.spec
     returns
-    slice-aggregate-table
-    table-requires
-    enum-known-count
-    slice-aggregate-put-cells
+    (λ c. search needs)
+    (λ c κs. search needs)
+    (λ c. search needs)
+    (λ c. search needs)
     mul-put-cells
     put-cells-requires
-    enum-known-number
-    cast-put-cell
+    (λ c. search needs)
+    (λ c. search needs)
     put-cell-requires
     put-cell-requires-2
-    same-length
+    (λ c. search needs)
     returns-2
-    same-length-2
+    (λ c. search needs)
     returns-3)
