@@ -112,10 +112,11 @@ module _ (s : Season) (r : Ranged s) where
       subst (λ (n : ℕ). Along n (dayOf s i) (dayOf s (i + suc k))) f (subst (λ (n : ℕ). Along (k + 1) (dayOf s i) (dayOf s n)) e (along-more k _ _ _ p q))
 
 module _ {s : Season} {t : SeasonDay} (v : Valid s) (o : OnDay s t) (k : ℕ) (h : k ≤ t .left) where
+  left-here : k ≤ dayOf s (t .number) .left
+  left-here = rw (← (ap (λ (d : SeasonDay). d .left) (o .is))) h
+
   pub along : Along k t (dayOf s (t .number + k))
-  along =
-      let l : k ≤ dayOf s (t .number) .left = rw (← (ap (λ (d : SeasonDay). d .left) (o .is))) h in
-      subst (λ (d : SeasonDay). Along k d (dayOf s (t .number + k))) (sym (o .is)) (along-days s (v .ranges) (t .number) k (o .of) l)
+  along = subst (λ (d : SeasonDay). Along k d (dayOf s (t .number + k))) (sym (o .is)) (along-days s (v .ranges) (t .number) k (o .of) left-here)
 
   along-raised : raised (t .top) (t .rise) k ≡ dayOf s (t .number + k) .top
   unfolding raised
@@ -156,8 +157,8 @@ module _ {s : Season} {t : SeasonDay} (v : Valid s) (o : OnDay s t) (k : ℕ) (h
   pub along-on : OnDay s (dayOf s (t .number + k))
   unfolding dayOf
   along-on =
-      let l : k ≤ dayOf s (t .number) .left = rw (← (ap (λ (d : SeasonDay). d .left) (o .is))) h in
-      on-day s _ (t .number + k) (record { from = omega (arith, o .of .from); to = omega (arith, l, days-within s (v .ranges) (t .number) (o .of)) }) refl
+      let d = days-within s (v .ranges) (t .number) (o .of) in
+      on-day s _ (t .number + k) (record { from = omega (arith, o .of .from); to = omega (arith, left-here, d) }) refl
 
 module _ {s : Season} {t : SeasonDay} (v : Valid s) (o : OnDay s t) where
   pub left-few : t .left ≤ 30

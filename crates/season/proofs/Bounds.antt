@@ -60,10 +60,13 @@ growth-per-day-small s r =
 
 -- the product that is rounded, and the need
 module _ (s : Season) (i : ℕ) (m : ℕ) (r : Ranged s) where
-  pub weighed : etoIn s m * slopeOf s i .top ≤ 300000 * slopeOf s i .bottom
+  weighed : etoIn s m * slopeOf s i .top ≤ 300000 * slopeOf s i .bottom
   weighed =
       let k = slopeOf s i in
       omega (arith, product (etoIn s m) (k .top) 1500 (200 * k .bottom) (r .eto _) (slope-small s i r .top-le), mul-assoc 1500 200 (k .bottom))
+
+  pub top-weighed : etoIn s m * slopeOf s i .top + 50 * slopeOf s i .bottom ≤ 60010000
+  top-weighed = omega (arith, weighed, slope-small s i r .few)
 
   rise-few : natAbs (slopeOf s i .rise) < 2147483648
   rise-few = omega (arith, slope-small s i r .rise-le)

@@ -16,7 +16,7 @@ use Rattle.season.proofs.Laws.{product, quotient-up}
 use Rattle.season.proofs.Reciprocal.{high, by-reciprocal, high-product, by-reciprocal-product}
 use Rattle.season.proofs.Slopes.{kc-slope, slope-small}
 use Rattle.season.proofs.Calendar.{on-add, next-in, next-over, days-high}
-use Rattle.season.proofs.Bounds.{date-proper, effective-le, weighed, need-le}
+use Rattle.season.proofs.Bounds.{date-proper, effective-le, top-weighed, need-le}
 
 -- The date of the day after.
 pub date-next : (s : Season) (i : ℕ) → 1 ≤ i → dateOf s (i + 1) ≡ nextDay (dateOf s i)
@@ -95,7 +95,7 @@ module _ {s : Season} {t : SeasonDay} (v : Valid s) (o : OnDay s t) where
   reciprocal-is = ap (λ (d : SeasonDay). d .reciprocal) (o .is)
 
   pub top-small : t .top ≤ 60010000
-  top-small = rw top-is (omega (arith, weighed s (t .number) (dateOf s (t .number) .month) (v .ranges), slope-small s (t .number) (v .ranges) .few))
+  top-small = rw top-is (top-weighed s (t .number) (dateOf s (t .number) .month) (v .ranges))
 
   abbrev stage : Slope
   stage = slopeOf s (t .number)

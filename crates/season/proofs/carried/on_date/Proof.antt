@@ -3,7 +3,7 @@ use Prim.Native.Nat.{_-_}
 use native.Mathlib.Omega.{arith}
 use Rattle.season.proofs.Calendar.{days-low}
 use Rattle.season.proofs.Slopes.{slope-small}
-use Rattle.season.proofs.Bounds.{effective-le, rain-per-day-small, weighed, rise-weighed-fits, rise-weighed-back}
+use Rattle.season.proofs.Bounds.{effective-le, rain-per-day-small, top-weighed, rise-weighed-fits, rise-weighed-back}
 use borrow.Author.Needs.{needs}
 use Rattle.season.proofs.carried.on_date.Statement.{statement}
 use Rattle.season.proofs.carried.on_date.Tie as tie
@@ -47,7 +47,7 @@ mul-t19 : tie.Need-mul-t19
 mul-t19 c =
     let at-slope-of = c .before .before .before in
     let start = at-slope-of .before .before .before .before .before .before in
-    record { fits = rw (at-slope-of .slope-of .ensures) (omega (arith, weighed (start .args .s) (start .args .number) (start .args .date .month) (start .pre .0 .ranges), slope-small (start .args .s) (start .args .number) (start .pre .0 .ranges) .few)) }
+    record { fits = rw (at-slope-of .slope-of .ensures) (omega (arith, top-weighed (start .args .s) (start .args .number) (start .args .date .month) (start .pre .0 .ranges))) }
 
 mul-t20 : tie.Need-mul-t20
 mul-t20 c =
@@ -59,7 +59,7 @@ add-t21 : tie.Need-add-t21
 add-t21 c =
     let at-slope-of = c .before .before .before .before in
     let start = at-slope-of .before .before .before .before .before .before in
-    record { fits = rw (at-slope-of .slope-of .ensures) (omega (arith, weighed (start .args .s) (start .args .number) (start .args .date .month) (start .pre .0 .ranges), slope-small (start .args .s) (start .args .number) (start .pre .0 .ranges) .few)) }
+    record { fits = rw (at-slope-of .slope-of .ensures) (omega (arith, top-weighed (start .args .s) (start .args .number) (start .args .date .month) (start .pre .0 .ranges))) }
 
 cast-t22 : tie.Need-cast-t22
 cast-t22 c =
