@@ -49,14 +49,13 @@ enum Drawn {
 
 // ---- a planned day
 
-// One number on a certain day, and another on every other.
-fn on_day(certain: u32, one: u32, day: u32, other: u32) -> u32
-    ensures { λ r. ⌜ r ≡ cond (eqb day certain) one other ⌝ }
+// On the open day waiting water stands in place of planned rain.
+fn water_on(today: u32, waiting: u32, day: u32, rain: u32) -> u32
+    ensures { λ r. ⌜ r ≡ cond (eqb day today) waiting rain ⌝ }
 {
-    if day == certain { one } else { other }
+    if day == today { waiting } else { rain }
 }
 
-// On the open day waiting water stands in place of planned rain.
 fn outlook_on(s: Season, today: u32, waiting: u32, t: SeasonDay, rain: u32, week: u32) -> DayOutlook
     requires { ⌜ Valid s ⌝ }
     requires { ⌜ OnDay s t ⌝ }
@@ -67,7 +66,7 @@ fn outlook_on(s: Season, today: u32, waiting: u32, t: SeasonDay, rain: u32, week
     let need = season::crop_need(s, t);
     let ready = season::ready_on(s, t);
     DayOutlook {
-        water: on_day(today, waiting, t.number, rain),
+        water: water_on(today, waiting, t.number, rain),
         need: need,
         ready: ready,
         turn: turn_in(s.turns, week),
@@ -95,6 +94,13 @@ fn week_after(week: u32) -> u32
     ensures { λ r. ⌜ r ≡ (week + 1) % 7 ⌝ }
 {
     if week < 6 { week + 1 } else { 0 }
+}
+
+// What is planned in a month before this day of it, where `to` is planned up to the day before: nothing before the first.
+fn rain_before(day: u32, to: u32) -> u32
+    ensures { λ r. ⌜ r ≡ cond (eqb day 1) 0 to ⌝ }
+{
+    if day == 1 { 0 } else { to }
 }
 
 // ---- the depths
@@ -138,8 +144,7 @@ fn pass_day(track: Track, ahead: DayOutlook, day: u32) -> Track
 
 // The depths of the days from `today` on, where zeros stand at first, in one pass. Where a day fails, the latest turn day since the last
 // watering is filled, and the pass goes on as if it had been all along; where the day fails then too, no choice holds it. The month's
-// planned rain, 0 before its first day, and the day of the week are carried along. The season ends where a month or a stage does, and
-// only there is its end tested.
+// planned rain and the day of the week are carried along. The season ends where a month or a stage does, and only there is its end tested.
 fn draw_depths(s: Season, today: u32, waiting: u32, start: u32, depths: &mut [u32]) -> Drawn
     requires { ⌜ Valid s ⌝ }
     requires { ⌜ DayOf s today ⌝ }
@@ -177,7 +182,7 @@ fn draw_depths(s: Season, today: u32, waiting: u32, start: u32, depths: &mut [u3
         }
         let next = season::next_day(s, t);
         t = next;
-        before = on_day(1, 0, t.day, to);
+        before = rain_before(t.day, to);
     }
 }
 

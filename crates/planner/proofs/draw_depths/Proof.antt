@@ -3,7 +3,7 @@ use mathlib.Core.Logic.{inl, inr}
 use Prim.Native.Nat.{suc, _+_, _-_}
 use native.Mathlib.Omega.{arith}
 use Rattle.season.specs.Carried.{OnDay}
-use Rattle.season.proofs.Days.{number-is, on-day as on-season-day}
+use Rattle.season.proofs.Days.{number-is, on-day}
 use Rattle.planner.proofs.Carry.{day-few, coming-grows, coming-rain, coming-along, coming-over}
 use Rattle.planner.proofs.Loops.{Drawing, drawing-start, drawing-length, drawing-whole, drawing-next, drawing-fits, drawing-lost, Placed, drawing-place, drawing-passed}
 use Rattle.planner.proofs.draw_depths.Statement.{statement}
@@ -45,7 +45,7 @@ day-of-requires c κs = (c .before .before .pre .0, c .before .before .pre .1 .0
 
 -- the first day is one of the season
 first-on : (c : tie.After-day-of Inv-loop μ-loop) → OnDay (c .before .before .before .args .s) (c .day-of .result)
-first-on c = on-season-day _ _ _ (c .before .before .before .pre .1 .0) (c .day-of .ensures)
+first-on c = on-day _ _ _ (c .before .before .before .pre .1 .0) (c .day-of .ensures)
 
 sub-rain-to : tie.Need-sub-rain-to Inv-loop μ-loop
 sub-rain-to c = day-few (c .before .before .before .before .pre .0) (first-on (c .before)) .0
@@ -161,7 +161,7 @@ loop-again-2 c =
     let at-rain-to2 = at-if1 .before .before .before .before .before in
     let at-loop = at-rain-to2 .before in
     drawing-next (passed at-if1) (at-next-day .next-day .ensures)
-    (coming-over (at-loop .loop .inv .coming) (at-rain-to2 .rain-to2 .ensures) (at-next-day .next-day .ensures) (at-week-after .week-after .ensures) (at-if4 .if4 .left) (c .on-day .ensures))
+    (coming-over (at-loop .loop .inv .coming) (at-rain-to2 .rain-to2 .ensures) (at-next-day .next-day .ensures) (at-week-after .week-after .ensures) (at-if4 .if4 .left) (c .rain-before .ensures))
 
 pub draw-depths-spec : {M : Type 1} → statement M
 draw-depths-spec =
