@@ -97,8 +97,7 @@ fn decade_end(day: u32) -> u32
 fn days_alike(t: SeasonDay) -> u32
     ensures { λ r. ⌜ r ≡ daysAlike t ⌝ }
 {
-    let rest = season::saturating_sub(decade_end(t.day), t.day);
-    if t.left <= rest { t.left } else { rest }
+    season::min(t.left, season::saturating_sub(decade_end(t.day), t.day))
 }
 
 // What is planned of the month's rain before a day.

@@ -22,6 +22,7 @@ pub use day::rain_to;
 pub use day::ready_on;
 pub use day::total_on;
 pub use depths::gross_of;
+pub use numbers::min;
 pub use numbers::saturating_sub;
 ghost use mathlib.Core.Path.{_≡_};
 ghost use Prim.Native.Nat.{_+_};
