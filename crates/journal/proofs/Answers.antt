@@ -94,31 +94,31 @@ module _ (s : Season) (area : List ℕ) (v : AcceptedSeason s) where
 
 -- ---- rain, irrigation and close
 
-module _ (s : Season) (area : List ℕ) (e : Entry) (o : Opening) (is : o ≡ opening s area) where
+module _ (s : Season) (area : List ℕ) (e : Entry) {o : Opening} (is : o ≡ opening s area) where
   on-opening : recorded s area e ≡ recordedOn (seasonDays s) (length area) e o
   unfolding recorded
   on-opening = ap (recordedOn (seasonDays s) (length area) e) (sym is)
 
-  module _ (l : Ledger) (clean : o ≡ Clean l) (days : ℕ) (n : days ≡ seasonDays s) (d : Verdict) (told : d ≡ refusal days (length area) l e) where
+  module _ {l : Ledger} (clean : o ≡ Clean l) {days : ℕ} (n : days ≡ seasonDays s) {d : Verdict} (is-refusal : d ≡ refusal days (length area) l e) where
     on-clean : recorded s area e ≡ recordedWith d (storesOf l e)
     unfolding recordedOn
-    on-clean = on-opening ∙ rw (clean, ← n, ← told)
+    on-clean = on-opening ∙ rw (clean, ← n, ← is-refusal)
 
-    pub records : d ≡ Accepted → (w : Stores) → w ≡ storesOf l e → record { verdict = Accepted; stores = w } ≡ recorded s area e
+    pub records : d ≡ Accepted → {w : Stores} → w ≡ storesOf l e → record { verdict = Accepted; stores = w } ≡ recorded s area e
     unfolding recordedWith
-    records h w q = sym (on-clean ∙ rw (h, ← q))
+    records h q = sym (on-clean ∙ rw (h, ← q))
 
-    pub declines : (number value : ℕ) → d ≡ verdict.Refused number value → (r : Recorded) → r ≡ recordedWith (verdict.Refused number value) noStores → r ≡ recorded s area e
+    pub declines : {number value : ℕ} → d ≡ verdict.Refused number value → {r : Recorded} → r ≡ recordedWith (verdict.Refused number value) noStores → r ≡ recorded s area e
     unfolding recordedWith
-    declines number value h r q = q ∙ sym (on-clean ∙ rw h)
+    declines h q = q ∙ sym (on-clean ∙ rw h)
 
-  pub declines-torn : (l : Ledger) (p : ℕ) → o ≡ Torn l p → (r : Recorded) → r ≡ recordedWith (verdict.Refused 10 p) noStores → r ≡ recorded s area e
+  pub declines-torn : {l : Ledger} {p : ℕ} → o ≡ Torn l p → {r : Recorded} → r ≡ recordedWith (verdict.Refused 10 p) noStores → r ≡ recorded s area e
   unfolding recordedOn
-  declines-torn l p h r q = q ∙ sym (on-opening ∙ rw h)
+  declines-torn h q = q ∙ sym (on-opening ∙ rw h)
 
-  pub declines-damaged : (number p : ℕ) → o ≡ opened.Refused number p → (r : Recorded) → r ≡ recordedWith (verdict.Refused number p) noStores → r ≡ recorded s area e
+  pub declines-damaged : {number p : ℕ} → o ≡ opened.Refused number p → {r : Recorded} → r ≡ recordedWith (verdict.Refused number p) noStores → r ≡ recorded s area e
   unfolding recordedOn
-  declines-damaged number p h r q = q ∙ sym (on-opening ∙ rw h)
+  declines-damaged h q = q ∙ sym (on-opening ∙ rw h)
 
 -- ---- mend
 
