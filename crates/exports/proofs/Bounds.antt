@@ -8,16 +8,13 @@ use native.Mathlib.Omega.{arith}
 use borrow.Author.Tests.{ltb-false}
 use lib.Dec.{ltb, eqb}
 use lib.ListN.{length, drop, take, getD, length-append, length-drop}
-use Rattle.leb128.specs.declared.Number.{Number}
-use Rattle.leb128.specs.declared.Number.the-variants.{Whole, Short, Bad}
-use Rattle.leb128.specs.Forms.{decode}
-use Rattle.leb128.proofs.Laws.{few-bytes, short-few, reach-few}
 use Rattle.season.specs.declared.Season.{Season}
 use Rattle.season.specs.Day.{AcceptedSeason}
 use Rattle.verdict.specs.declared.Verdict.{Verdict}
 use Rattle.verdict.specs.declared.Verdict.the-variants.{Accepted, Refused}
 use Rattle.verdict.specs.Refusals.{orRefused}
-use Rattle.sheet.specs.Numbers.{Run, run, stop, before, numbers, none, ended, numbersRead}
+use Rattle.sheet.proofs.Start.{Ends, numbers-end}
+use Rattle.sheet.specs.Numbers.{Run, run, stop, numbers, none, ended, numbersRead}
 use Rattle.sheet.specs.Fields.{limits, outside, lowestOutside, seasonOf}
 use Rattle.sheet.specs.Sheets.{fieldAtFault, fieldsVerdict, onlyAccepted, sheetOf}
 use Rattle.sheet.specs.Sheets as sheets
@@ -54,27 +51,6 @@ use Rattle.controller.proofs.Claims.{claims}
 use Rattle.exports.specs.Small.{SmallVerdict, SmallOpening, SmallRecorded, SmallMended, SmallPlanned, SmallTabled}
 
 -- ---- the sheet
-
--- Each number takes at most three bytes, and what is refused stands in the bytes of the number at fault.
-abbrev Ends : ℕ → Run → Type 0
-Ends most (run vs at) = at ≤ most
-Ends most (stop number place) = place ≤ most
-
-before-ends : (most v : ℕ) (r : Run) → Ends most r → Ends most (before v r)
-unfolding before
-before-ends most v (run vs at) h = h
-before-ends most v (stop number place) h = h
-
-numbers-end : (count at most : ℕ) (s : List ℕ) → at + 3 * count ≤ most → Ends most (numbers count at s)
-unfolding numbers
-numbers-end zero at most s h = omega arith
-numbers-end (suc count) at most s h = read (λ n m. numbers-end count (at + n) most s (omega arith)) (decode (drop at s)) refl
-  where
-    read : ((n : ℕ) → n ≤ 3 → Ends most (numbers count (at + n) s)) → (d : Number) → decode (drop at s) ≡ d
-        → Ends most (elim d [ Whole v n ↦ before v (numbers count (at + n) s) | Short ↦ stop 1 (length s) | Bad p ↦ stop 2 (at + p) ])
-    read f (Whole v n) e = before-ends most v (numbers count (at + n) s) (f n (few-bytes (drop at s) v n e))
-    read f Short e = omega (arith, length-drop at s, short-few (drop at s) e)
-    read f (Bad p) e = omega (arith, rw e at (reach-few (drop at s)))
 
 ended-small : (s : List ℕ) (r : Run) → Ends 120 r → SmallVerdict (ended s r .verdict)
 unfolding ended

@@ -11,7 +11,7 @@ use lib.Seq.{drop-append-le}
 use Rattle.leb128.specs.declared.Number.{Number}
 use Rattle.leb128.specs.declared.Number.the-variants.{Whole, Short, Bad}
 use Rattle.leb128.specs.Forms.{decode}
-use Rattle.leb128.proofs.Laws.{decode-more, few-bytes, short-few}
+use Rattle.leb128.proofs.Laws.{decode-more, few-bytes, short-few, reach-few}
 use Rattle.sheet.specs.Numbers.{Run, before, numbers, ended, numbersRead}
 use Rattle.sheet.specs.Sheets.{sheetOf}
 use Rattle.sheet.proofs.Runs.{numbers-whole, numbers-short, numbers-bad}
@@ -34,28 +34,28 @@ module _ (t y : List ℕ) where
   numbers-start zero at h = refl
   numbers-start (suc count) at h = start-by count at h (λ n l. numbers-start count (at + n) (omega arith)) (decode (drop at t)) refl
 
--- A run of numbers takes three bytes a number at most.
-abbrev To : ℕ → Run → Type 0
-To most (Run.run vs end) = end ≤ most
-To most (Run.stop number place) = Unit
+-- A run of numbers takes three bytes a number at most, and what is refused stands in the bytes of the number at fault.
+abbrev pub Ends : ℕ → Run → Type 0
+Ends most (Run.run vs end) = end ≤ most
+Ends most (Run.stop number place) = place ≤ most
 
-to-before : (most v : ℕ) (r : Run) → To most r → To most (before v r)
+ends-before : (most v : ℕ) (r : Run) → Ends most r → Ends most (before v r)
 unfolding before
-to-before most v (Run.run vs end) h = h
-to-before most v (Run.stop number place) h = tt
+ends-before most v (Run.run vs end) h = h
+ends-before most v (Run.stop number place) h = h
 
-to-by : (count at most : ℕ) (s : List ℕ) → ((n : ℕ) → n ≤ 3 → To most (numbers count (at + n) s)) → (d : Number) → decode (drop at s) ≡ d
-    → To most (numbers (suc count) at s)
-to-by count at most s ih (Whole v n) e = rw (numbers-whole count at s v n e) (to-before most v _ (ih n (few-bytes (drop at s) v n e)))
-to-by count at most s ih Short e = rw (numbers-short count at s e) tt
-to-by count at most s ih (Bad p) e = rw (numbers-bad count at s p e) tt
+ends-by : (count at most : ℕ) (s : List ℕ) → at + 3 ≤ most → ((n : ℕ) → n ≤ 3 → Ends most (numbers count (at + n) s)) → (d : Number) → decode (drop at s) ≡ d
+    → Ends most (numbers (suc count) at s)
+ends-by count at most s h ih (Whole v n) e = rw (numbers-whole count at s v n e) (ends-before most v _ (ih n (few-bytes (drop at s) v n e)))
+ends-by count at most s h ih Short e = rw (numbers-short count at s e) (omega (arith, length-drop at s, short-few (drop at s) e))
+ends-by count at most s h ih (Bad p) e = rw (numbers-bad count at s p e) (omega (arith, rw e at (reach-few (drop at s))))
 
-numbers-to : (count at most : ℕ) (s : List ℕ) → at + 3 * count ≤ most → To most (numbers count at s)
+pub numbers-end : (count at most : ℕ) (s : List ℕ) → at + 3 * count ≤ most → Ends most (numbers count at s)
 unfolding numbers
-numbers-to zero at most s h = omega arith
-numbers-to (suc count) at most s h = to-by count at most s (λ n l. numbers-to count (at + n) most s (omega arith)) (decode (drop at s)) refl
+numbers-end zero at most s h = omega arith
+numbers-end (suc count) at most s h = ends-by count at most s (omega arith) (λ n l. numbers-end count (at + n) most s (omega arith)) (decode (drop at s)) refl
 
-ended-start : (t y : List ℕ) → 121 ≤ length t → (r : Run) → To 120 r → ended (t ++ y) r ≡ ended t r
+ended-start : (t y : List ℕ) → 121 ≤ length t → (r : Run) → Ends 120 r → ended (t ++ y) r ≡ ended t r
 unfolding ended
 ended-start t y h (Run.run vs end) l =
     let p : ltb end (length t) ≡ true = lt-ltb end (length t) (omega arith) in
@@ -68,5 +68,5 @@ pub first-bytes-decide : (t y : List ℕ) → 121 ≤ length t → sheetOf (t ++
 unfolding sheetOf numbersRead
 first-bytes-decide t y h =
     let n : numbers 40 0 (t ++ y) ≡ numbers 40 0 t = numbers-start t y 40 0 (omega arith) in
-    let e : numbersRead (t ++ y) ≡ numbersRead t = ap (ended (t ++ y)) n ∙ ended-start t y h (numbers 40 0 t) (numbers-to 40 0 120 t (omega arith)) in
+    let e : numbersRead (t ++ y) ≡ numbersRead t = ap (ended (t ++ y)) n ∙ ended-start t y h (numbers 40 0 t) (numbers-end 40 0 120 t (omega arith)) in
     rw e
