@@ -11,7 +11,7 @@ use borrow.Author.Tests.{leb-true, leb-false}
 use Rattle.planner.specs.Choices.{Outlook, plannedDay, Holds, irrigated, Fills, Best, NoneHolds, Reached, FirstLost}
 use Rattle.planner.specs.Plan.{Plan, depths, refused, after}
 
--- The plan from a day on, or `dry f`: with no watering f is the first failing day, and there is no turn day from that day to f.
+-- The plan from a day on, or `unwatered f`: with no watering f is the first failing day, and there is no turn day from that day to f.
 pub data Draft : Type 0 where
   planned : Plan → Draft
   unwatered : ℕ → Draft
@@ -44,7 +44,7 @@ backAt o d D rest (unwatered f) =
       | false ↦ unwatered f
     ]
 
--- k days from day d, which starts at D: without watering day d first, and where that comes back dry, with it
+-- k days from day d, which starts at D: without watering day d first, and where that comes back unwatered, with it
 unfoldable pub draft : Outlook → ℕ → ℕ → ℕ → Draft
 draft o zero d D = planned (depths [])
 draft o (suc k) d D = backAt o d D (draft o k (suc d)) (withDepth o d D (draft o k (suc d)) 0)
@@ -75,7 +75,7 @@ Good o k d D (planned (depths xs)) = Made o k d D xs
 Good o k d D (planned (refused f)) = Reached o k d D f × ((E : ℕ) → NoneHolds o d E f)
 Good o k d D (unwatered f) = FirstLost o k d D f
 
--- what a draft with depth x on day d, before k days, says; a dry one, only that no choice that begins with x holds
+-- what a draft with depth x on day d, before k days, says; an unwatered one, only that no choice that begins with x holds
 abbrev Begun : Outlook → ℕ → ℕ → ℕ → ℕ → Draft → Type 0
 Begun o k d D x (planned (depths xs)) = (zs : List ℕ) × (xs ≡ x ∷ zs) × (plannedDay o d D x ≤ o .ready d) × Made o k (suc d) (plannedDay o d D x) zs
 Begun o k d D x (planned (refused f)) = Good o (suc k) d D (planned (refused f))
@@ -141,7 +141,7 @@ module _ (o : Outlook) where
         go true e = begun-before x t (leb-true end (o .ready d) e) (rest end) (good end)
         go false e = (record { from = omega arith; to = omega arith; held = ([], omega arith, tt) }, λ ys l p. omega (arith, p .1, leb-false end (o .ready d) e))
 
-    -- day d is left dry: a choice that waters it may start the next day lower, but has had one watering more
+    -- day d is not watered: a choice that waters it may start the next day lower, but has had one watering more
     made-unwatered : (zs : List ℕ) → plannedDay o d D 0 ≤ o .ready d → Made o k (suc d) (plannedDay o d D 0) zs → Made o (suc k) d D (0 ∷ zs)
     unfolding Holds Fills irrigated
     made-unwatered zs h m =
@@ -162,12 +162,12 @@ module _ (o : Outlook) where
         ahead E [] l p = absurd (omega arith)
         ahead E (y ∷ ys) l p = lead-cons 1 1 0 y zs ys (omega arith) (m .ahead (plannedDay o d E y) ys (omega arith) (p .2))
 
-    -- day d is watered to full, and no choice that leaves it dry holds
-    made-wet : (x : ℕ) (zs : List ℕ) → D - o .water d ≡ suc x → o .turn d ≡ true → plannedDay o d D (suc x) ≤ o .ready d
+    -- day d is watered to full, and no choice that does not water it holds
+    made-watered : (x : ℕ) (zs : List ℕ) → D - o .water d ≡ suc x → o .turn d ≡ true → plannedDay o d D (suc x) ≤ o .ready d
         → ((ys : List ℕ) → length ys ≡ k → Holds o d D (0 ∷ ys) → ⊥)
         → Made o k (suc d) (plannedDay o d D (suc x)) zs → Made o (suc k) d D (suc x ∷ zs)
     unfolding Holds Fills irrigated
-    made-wet x zs full t h lost m =
+    made-watered x zs full t h lost m =
         record {
           size = omega arith;
           holds = (λ _. t, h, m .holds);
@@ -196,12 +196,12 @@ module _ (o : Outlook) where
         lost E [] l p = omega arith
         lost E (y ∷ ys) l p = g .1 ys (omega arith) (holds-full d D x E y ys full t p)
 
-    good-wet : (x : ℕ) → D - o .water d ≡ suc x → o .turn d ≡ true → ((ys : List ℕ) → length ys ≡ k → Holds o d D (0 ∷ ys) → ⊥)
+    good-watered : (x : ℕ) → D - o .water d ≡ suc x → o .turn d ≡ true → ((ys : List ℕ) → length ys ≡ k → Holds o d D (0 ∷ ys) → ⊥)
         → (r : Draft) → Begun o k d D (suc x) r → Good o (suc k) d D (planned (settled r))
     unfolding settled
-    good-wet x full t lost (planned (depths xs)) g = rw (g .1) (made-wet x (g .0) full t (g .2) lost (g .3))
-    good-wet x full t lost (planned (refused f)) g = g
-    good-wet x full t lost (unwatered f) g = lost-full (suc x) f (omega arith) (λ _. t) g
+    good-watered x full t lost (planned (depths xs)) g = rw (g .1) (made-watered x (g .0) full t (g .2) lost (g .3))
+    good-watered x full t lost (planned (refused f)) g = g
+    good-watered x full t lost (unwatered f) g = lost-full (suc x) f (omega arith) (λ _. t) g
 
     good-back : (rest : ℕ → Draft) → ((E : ℕ) → Good o k (suc d) E (rest E)) → (r : Draft) → Begun o k d D 0 r → Good o (suc k) d D (backAt o d D rest r)
     unfolding backAt Holds
@@ -214,7 +214,7 @@ module _ (o : Outlook) where
 
         filled : (x : ℕ) → D - o .water d ≡ x → o .turn d ≡ true → Good o (suc k) d D (planned (fill x))
         filled zero e t = lost-full 0 f (omega arith) (λ _. t) g
-        filled (suc x) e t = good-wet x e t (λ ys l p. g .1 ys (omega arith) p) (withDepth o d D rest (suc x)) (begun rest good (suc x) (λ _. t))
+        filled (suc x) e t = good-watered x e t (λ ys l p. g .1 ys (omega arith) p) (withDepth o d D rest (suc x)) (begun rest good (suc x) (λ _. t))
 
         no-turn : o .turn d ≡ false → NoneHolds o d D f
         no-turn t [] l p = omega arith

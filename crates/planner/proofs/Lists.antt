@@ -21,9 +21,9 @@ sum-append [] ys = omega arith
 sum-append (x ∷ xs) ys = omega (arith, sum-append xs ys)
 
 -- one day more, irrigated or not
-pub irrigated-wet : (xs : List ℕ) (i : ℕ) → i < length xs → 0 < getD xs i 0 → irrigated (take (i + 1) xs) ≡ irrigated (take i xs) + 1
+pub irrigated-watered : (xs : List ℕ) (i : ℕ) → i < length xs → 0 < getD xs i 0 → irrigated (take (i + 1) xs) ≡ irrigated (take i xs) + 1
 unfolding irrigated
-irrigated-wet xs i h p = rw (add-one i, take-suc xs i 0, irrigated-append) (go (getD xs i 0) p)
+irrigated-watered xs i h p = rw (add-one i, take-suc xs i 0, irrigated-append) (go (getD xs i 0) p)
   where
     go : (x : ℕ) → 0 < x → irrigated (take i xs) + irrigated (x ∷ []) ≡ irrigated (take i xs) + 1
     go zero q = absurd (omega arith)

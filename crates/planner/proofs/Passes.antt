@@ -1,5 +1,5 @@
 -- One pass makes the plan. Beside the draft of the days left goes a second one, with the latest turn day filled: where the first comes back
--- dry, the second is what is planned.
+-- unwatered, the second is what is planned.
 use mathlib.Core.Path.{_≡_, refl, sym, _∙_, ap}
 use mathlib.Core.Bool.{Bool, true, false}
 use mathlib.Core.List.{List, [], _∷_, _++_}

@@ -50,7 +50,7 @@ pub const ENTRIES: [u32; 24] = [
 ];
 
 // Days without water: use under stress.
-pub const DRY: [u32; 6] = [3, 3, 3, 3, 3, 4];
+pub const WITHOUT_WATER: [u32; 6] = [3, 3, 3, 3, 3, 4];
 
 // Areas that end: the entry does not fit.
 pub const NARROW: [u32; 9] = [3001, 12, 3, 2551, 11, 3, 4, 1200002, 11];

@@ -42,8 +42,8 @@ fn cut_entries() -> bool {
     cut_small(64, &history, b"entries of every size")
 }
 
-fn cut_dry() -> bool {
-    let history = histories::DRY;
+fn cut_without_water() -> bool {
+    let history = histories::WITHOUT_WATER;
     cut_small(64, &history, b"days without water")
 }
 
@@ -66,7 +66,7 @@ fn cut_long() -> bool {
 // Stops at the first difference.
 fn main() {
     if cut_entries()
-        && cut_dry()
+        && cut_without_water()
         && cut_narrow(7, b"an area of 7 bytes")
         && cut_narrow(6, b"an area of 6 bytes")
         && cut_narrow(0, b"an area of no bytes")

@@ -5,7 +5,7 @@ use Prim.Native.Nat.{_≤_, _-_}
 use lib.ListN.{length, take}
 use lib.Seq.{take-all}
 use Rattle.planner.specs.Choices.{irrigated}
-use Rattle.planner.proofs.Lists.{irrigated-wet, irrigated-unwatered}
+use Rattle.planner.proofs.Lists.{irrigated-watered, irrigated-unwatered}
 use Rattle.planner.proofs.irrigated_days.Statement.{statement}
 use Rattle.planner.proofs.irrigated_days.Tie as tie
 
@@ -22,7 +22,7 @@ loop-holds c = (omega arith, refl, omega arith)
 loop-again : tie.Need-loop-again Inv-loop μ-loop
 loop-again c =
     let xs = c .before .before .before .before .args .depths .now in
-    (omega arith, omega (arith, irrigated-wet xs (c .before .before .before .loop .i) (omega arith) (c .if1 .taken)), omega arith)
+    (omega arith, omega (arith, irrigated-watered xs (c .before .before .before .loop .i) (omega arith) (c .if1 .taken)), omega arith)
 
 loop-again-2 : tie.Need-loop-again-2 Inv-loop μ-loop
 loop-again-2 c =

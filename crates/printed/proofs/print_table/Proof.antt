@@ -17,23 +17,23 @@ returns : tie.Need-returns
 returns c = too-short (now (c .before .before .before .args .sheet)) (now (c .before .before .before .args .text)) (c .if1 .taken)
 
 -- the rows that the table call answered
-rows-told : (c : tie.After-count) →
+rows-answered : (c : tie.After-count) →
     let at-table = c .before .before .before in
     As-rows (now (at-table .before .before .before .before .before .args .sheet)) (replicate 222 0) refl (c .count .given .0 .0) (at-table .table .last .1 .0)
-rows-told c =
+rows-answered c =
     let at-table = c .before .before .before in
     rows-printed (now (at-table .before .before .before .before .before .args .sheet)) (replicate 222 0) refl _ (at-table .table .last .1 .0)
     (ap (λ (r : Tabled). (r, at-table .table .last .1 .0)) (sym (c .count .given .1)) ∙ at-table .table .ensures)
 
 mul-put-cells : tie.Need-mul-put-cells
-mul-put-cells c = record { fits = omega (arith, rows-told (c .before .before .before) .few) }
+mul-put-cells c = record { fits = omega (arith, rows-answered (c .before .before .before) .few) }
 
 put-cells-requires : tie.Need-put-cells-requires
 put-cells-requires c κs =
     let at-count = c .before .before .before in
     let at-table = at-count .before .before .before in
     let at-if1 = at-table .before .before in
-    let few = rows-told (at-count) .few in
+    let few = rows-answered (at-count) .few in
     (omega (arith, few, at-table .table .kept .1 .0), omega (arith, few, at-if1 .if1 .left))
 
 put-cell-requires : tie.Need-put-cell-requires
@@ -62,9 +62,9 @@ returns-2 c =
     let at-count = at-put-cells .before .before .before .before in
     let at-if1 = at-count .before .before .before .before .before in
     let start = at-if1 .before .before .before in
-    let told = rows-told (at-count) in
-    stored (now (start .args .sheet)) _ (now (start .args .text)) _ _ (at-if1 .if1 .left) (told .text)
-    (omega (arith, told .few, at-put-cells .put-cells .ensures .0, at-put-cells .put-cells .ensures .2, at-if1 .if1 .left)) (at-put-cells .put-cells .ensures .0) (at-put-cells .put-cells .ensures .1)
+    let rows = rows-answered (at-count) in
+    stored (now (start .args .sheet)) _ (now (start .args .text)) _ _ (at-if1 .if1 .left) (rows .text)
+    (omega (arith, rows .few, at-put-cells .put-cells .ensures .0, at-put-cells .put-cells .ensures .2, at-if1 .if1 .left)) (at-put-cells .put-cells .ensures .0) (at-put-cells .put-cells .ensures .1)
 
 returns-3 : tie.Need-returns-3
 returns-3 c =
