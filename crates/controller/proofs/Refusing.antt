@@ -4,12 +4,13 @@ use mathlib.Core.Bool.{Bool, true, false, cond}
 use mathlib.Core.List.{List, [], _∷_, _++_}
 use Prim.Native.Nat.{ℕ, _*_, _≤_, _<_}
 use native.Mathlib.Omega.{arith}
-use lib.Dec.{ltb, leb}
-use lib.ListN.{length, drop}
-use borrow.Author.Tests.{lt-ltb, le-ltb, leb-true, leb-false}
+use lib.Dec.{ltb}
+use lib.ListN.{length, drop, length-append}
+use borrow.Author.Tests.{lt-ltb, le-ltb}
 use Rattle.season.specs.declared.Season.{Season}
 use Rattle.season.specs.Sheet.{seasonDays}
 use Rattle.season.specs.Day.{AcceptedSeason}
+use Rattle.season.proofs.Whole.{by-order}
 use Rattle.verdict.specs.declared.Verdict.{Verdict}
 use Rattle.verdict.specs.declared.Verdict.the-variants.{Accepted, Refused}
 use Rattle.verdict.specs.Refusals.{orRefused, firstOf, verdictOf}
@@ -23,10 +24,13 @@ use Rattle.journal.specs.declared.Ledger.{Ledger}
 use Rattle.journal.specs.declared.Opening.{Opening}
 use Rattle.journal.specs.declared.Opening.the-variants as found
 use Rattle.journal.specs.declared.Stores.{Stores}
-use Rattle.journal.specs.Entries.{waiting, refusals, refusal}
+use Rattle.journal.specs.Entries.{waiting, start, refusals, refusal}
 use Rattle.journal.specs.Opening as opened
-use Rattle.journal.specs.Opening.{replayed, tornAt, trim, isBlank, behind, opening}
+use Rattle.journal.specs.Opening.{opening}
+use Rattle.journal.specs.Specified.{bytesAll, Says}
+use Rattle.journal.specs.Specified as said
 use Rattle.journal.specs.Calls.{noStores, recordedWith, storesOf, recordedOn, recorded, notMended, mendedOn, mended}
+use Rattle.journal.proofs.Claims as journals
 use Rattle.planner.specs.declared.Planned.{Planned}
 use Rattle.planner.specs.declared.Planned.the-variants as planned
 use Rattle.planner.specs.Plan.{Plan, depths, refused}
@@ -65,31 +69,24 @@ numbers-refused number value h = verdicts.claims .verdict-of-numbers (Refused nu
 
 -- ---- what an opening can be
 
-pub opening-by : (s : Season) (area : List ℕ) (P : Opening → Type 0) → (8192 < length area → P (found.Refused 8 0))
-    → (length area ≤ 8192 → (l : Ledger) → P (found.Clean l)) → (length area ≤ 8192 → (l : Ledger) → P (found.Torn l (l .place)))
-    → (length area ≤ 8192 → (place : ℕ) → P (found.Refused 9 place)) → P (opening s area)
-unfolding opening behind
-opening-by s area P long clean torn damaged = size (leb (length area) 8192) refl
-  where
-    l : Ledger
-    l = replayed s area .ledger
+-- What holds in each case of an opening holds of it: a place is the ledger's, which lies in the area.
+module _ (s : Season) (area : List ℕ) (P : Opening → Type 0) (long : 8192 < length area → P (found.Refused 8 0))
+    (clean : length area ≤ 8192 → (l : Ledger) → l .place ≤ length area → P (found.Clean l))
+    (torn : length area ≤ 8192 → (l : Ledger) → l .place ≤ length area → P (found.Torn l (l .place)))
+    (damaged : length area ≤ 8192 → (l : Ledger) → l .place ≤ length area → P (found.Refused 9 (l .place))) where
+  by-tail : {l : Ledger} {bytes : List ℕ} {o : Opening} → length area ≤ 8192 → l .place ≤ length area → Says (seasonDays s) (length area) l bytes o → P o
+  by-tail {l} h i (said.clean m e) = clean h l i
+  by-tail {l} h i (said.torn t) = torn h l i
+  by-tail {l} h i (said.damaged n t) = damaged h l i
 
-    rest : List ℕ
-    rest = replayed s area .rest
-
-    part : (b : Bool) → length area ≤ 8192 → P (elim b [ true ↦ found.Torn l (l .place) | false ↦ found.Refused 9 (l .place) ])
-    part true h = torn h l
-    part false h = damaged h (l .place)
-
-    tail : (b : Bool) → length area ≤ 8192
-        → P (elim b [ true ↦ found.Clean l | false ↦ elim (tornAt (seasonDays s) (length area) l (trim rest)) [ true ↦ found.Torn l (l .place) | false ↦ found.Refused 9 (l .place) ] ])
-    tail true h = clean h l
-    tail false h = part (tornAt (seasonDays s) (length area) l (trim rest)) h
-
-    size : (b : Bool) → leb (length area) 8192 ≡ b
-        → P (elim b [ true ↦ behind (seasonDays s) (length area) (replayed s area .ledger) (replayed s area .rest) | false ↦ found.Refused 8 0 ])
-    size true e = tail (isBlank rest) (leb-true (length area) 8192 e)
-    size false e = long (leb-false (length area) 8192 e)
+  pub opening-by : P (opening s area)
+  opening-by =
+      by-order (length area) 8193
+      (λ h. rw (journals.claims .opening-refuses s area (omega arith)) (long (omega arith)))
+      (λ h.
+      let o = journals.claims .opening-says s area (omega arith) in
+      let run = bytesAll s (start s) (o .run .entries) in
+      by-tail (omega arith) (omega (arith, o .place, ap length (o .run .is), length-append run (o .found .rest))) (o .says))
 
 -- ---- the verdict of a plan's and of a table's answer, by their numbers
 
@@ -118,9 +115,9 @@ module _ (s : Season) (area : List ℕ) where
   by-opening verdictIn lines refuses clean torn =
       opening-by s area (λ o. verdictIn o ≡ firstOf Accepted (areaLines (length area) o ++ lines o))
       (λ h. refuses 8 0 (omega arith) ∙ sym (rw (lt-ltb 8192 (length area) h) (first-refused 8 0 (lines (found.Refused 8 0)))))
-      (λ h l. clean l ∙ sym (rw (le-ltb 8192 (length area) h)))
-      (λ h l. torn l ∙ sym (rw (le-ltb 8192 (length area) h)))
-      (λ h place. refuses 9 place (omega arith) ∙ sym (rw (le-ltb 8192 (length area) h) (first-refused 9 place (lines (found.Refused 9 place)))))
+      (λ h l i. clean l ∙ sym (rw (le-ltb 8192 (length area) h)))
+      (λ h l i. torn l ∙ sym (rw (le-ltb 8192 (length area) h)))
+      (λ h l i. refuses 9 (l .place) (omega arith) ∙ sym (rw (le-ltb 8192 (length area) h) (first-refused 9 (l .place) (lines (found.Refused 9 (l .place))))))
 
   pub open-verdict : verdictOf (opened.numbersOf (opening s area)) ≡ firstOf Accepted (openLines area s)
   unfolding orRefused

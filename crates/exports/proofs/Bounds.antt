@@ -7,7 +7,7 @@ use mathlib.Core.List.{List, [], _∷_, _++_}
 use native.Mathlib.Omega.{arith}
 use borrow.Author.Tests.{ltb-false}
 use lib.Dec.{ltb, eqb}
-use lib.ListN.{length, drop, take, getD, length-append, length-drop}
+use lib.ListN.{length, drop, take, getD, length-drop}
 use Rattle.season.specs.declared.Season.{Season}
 use Rattle.season.specs.Day.{AcceptedSeason}
 use Rattle.verdict.specs.declared.Verdict.{Verdict}
@@ -19,21 +19,16 @@ use Rattle.sheet.specs.Fields.{limits, outside, lowestOutside, seasonOf}
 use Rattle.sheet.specs.Sheets.{fieldAtFault, fieldsVerdict, onlyAccepted, sheetOf}
 use Rattle.sheet.specs.Sheets as sheets
 use Rattle.season.specs.Sheet.{seasonDays}
-use Rattle.season.proofs.Whole.{by-order}
 use Rattle.journal.specs.declared.Entry.{Entry}
 use Rattle.journal.specs.declared.Ledger.{Ledger}
 use Rattle.journal.specs.declared.Stores.{Stores}
 use Rattle.journal.specs.declared.Recorded.{Recorded}
 use Rattle.journal.specs.declared.Mended.{Mended}
-use Rattle.journal.specs.declared.Opening.{Opening}
 use Rattle.journal.specs.declared.Opening.the-variants as found
 use Rattle.journal.specs.Entries.{waiting, start, refusal}
 use Rattle.journal.specs.Opening.{opening}
-use Rattle.journal.specs.Specified.{bytesAll, Says}
-use Rattle.journal.specs.Specified as said
 use Rattle.journal.specs.Calls.{storesOf, noStores, recordedWith, recordedOn, recorded, wipePlaces, notMended, mendedOn, mended}
 use Rattle.journal.specs.Claims.{StoresOccur}
-use Rattle.journal.proofs.Claims as journal
 use Rattle.planner.specs.declared.Planned.{Planned}
 use Rattle.planner.specs.declared.Planned.the-variants as planned
 use Rattle.planner.specs.Plan.{Plan, depths, refused, plan}
@@ -47,6 +42,7 @@ use Rattle.decades.specs.Table as definition
 use Rattle.decades.proofs.Count.{rows-at-most}
 use Rattle.controller.specs.Calls.{plannedOn, sheetOpened, sheetRecorded, sheetMended, sheetPlanned, sheetTabled}
 use Rattle.controller.proofs.Sheets.{on-sheet}
+use Rattle.controller.proofs.Refusing.{opening-by}
 use Rattle.controller.proofs.Claims.{claims}
 use Rattle.exports.specs.Small.{SmallVerdict, SmallOpening, SmallRecorded, SmallMended, SmallPlanned, SmallTabled}
 
@@ -101,29 +97,10 @@ refused-small b number value e = rw e at (sheet-small b)
 
 -- ---- the journal
 
--- What holds in each case of an opening holds of it: a place is the ledger's, which lies in the area.
-module _ (s : Season) (area : List ℕ) (P : Opening → Type 0) (long : P (found.Refused 8 0))
-    (clean : length area ≤ 8192 → (l : Ledger) → l .place ≤ length area → P (found.Clean l))
-    (torn : length area ≤ 8192 → (l : Ledger) → l .place ≤ length area → P (found.Torn l (l .place)))
-    (damaged : length area ≤ 8192 → (l : Ledger) → l .place ≤ length area → P (found.Refused 9 (l .place))) where
-  by-tail : {l : Ledger} {bytes : List ℕ} {o : Opening} → length area ≤ 8192 → l .place ≤ length area → Says (seasonDays s) (length area) l bytes o → P o
-  by-tail {l} h i (said.clean m e) = clean h l i
-  by-tail {l} h i (said.torn t) = torn h l i
-  by-tail {l} h i (said.damaged n t) = damaged h l i
-
-  opening-by : P (opening s area)
-  opening-by =
-      by-order (length area) 8193
-      (λ h. rw (journal.claims .opening-refuses s area (omega arith)) long)
-      (λ h.
-      let o = journal.claims .opening-says s area (omega arith) in
-      let run = bytesAll s (start s) (o .run .entries) in
-      by-tail (omega arith) (omega (arith, o .place, ap length (o .run .is), length-append run (o .found .rest))) (o .says))
-
 pub opened-small : (sheet area : List ℕ) → SmallOpening (sheetOpened sheet area)
 opened-small sheet area =
     on-sheet found.Refused (λ s. opening s area) sheet SmallOpening (λ number value e. refused-small sheet number value e)
-    (λ s v q o. opening-by s area SmallOpening (omega arith) (λ h l i. omega arith) (λ h l i. (omega arith, omega arith)) (λ h l i. omega arith))
+    (λ s v q o. opening-by s area SmallOpening (λ h. omega arith) (λ h l i. omega arith) (λ h l i. (omega arith, omega arith)) (λ h l i. omega arith))
 
 -- ---- rain, irrigation and close
 
@@ -148,7 +125,7 @@ recorded-begins sheet area e =
     on-sheet (λ number value. recordedWith (Refused number value) noStores) (λ s. recorded s area e) sheet Begins
     (λ number value v. recorded-with-begins (Refused number value) noStores (refused-small sheet number value v) (omega arith))
     (λ s v q o. opening-by s area (λ o. Begins (recordedOn (seasonDays s) (length area) e o))
-    (recorded-with-begins (Refused 8 0) noStores (omega arith) (omega arith))
+    (λ h. recorded-with-begins (Refused 8 0) noStores (omega arith) (omega arith))
     (λ h l i. recorded-with-begins (refusal (seasonDays s) (length area) l e) (storesOf l e) (entry-small (seasonDays s) (length area) l e) (omega arith))
     (λ h l i. recorded-with-begins (Refused 10 (l .place)) noStores (omega arith) (omega arith))
     (λ h l i. recorded-with-begins (Refused 9 (l .place)) noStores (omega arith) (omega arith)))
@@ -208,7 +185,7 @@ mended-wipes sheet area =
     on-sheet notMended (λ s. mended s area) sheet Wipes
     (λ number value v. record { verdict = refused-small sheet number value v; places = zeros-up-to 8192 })
     (λ s v q o. opening-by s area (λ o. Wipes (mendedOn area o))
-    (record { verdict = omega arith; places = zeros-up-to 8192 })
+    (λ h. record { verdict = omega arith; places = zeros-up-to 8192 })
     (λ h l i. record { verdict = tt; places = zeros-up-to 8192 })
     (λ h l i. record {
       verdict = tt;
@@ -263,7 +240,7 @@ unfolding plannedOn
 planned-small sheet area out =
     on-sheet (λ number value. (planned.Refused number value, out)) (λ s. plannedOn s out (opening s area)) sheet (λ (a : Planned × List ℕ). SmallPlanned (a .0))
     (λ number value v. refused-small sheet number value v)
-    (λ s v q o. opening-by s area (λ p. SmallPlanned (plannedOn s out p .0)) (omega arith) (λ h l i. ledger-small s o out l) (λ h l i. omega arith) (λ h l i. omega arith))
+    (λ s v q o. opening-by s area (λ p. SmallPlanned (plannedOn s out p .0)) (λ h. omega arith) (λ h l i. ledger-small s o out l) (λ h l i. omega arith) (λ h l i. omega arith))
 
 pub tabled-small : (sheet out : List ℕ) → SmallTabled (sheetTabled sheet out .0)
 tabled-small sheet out =
