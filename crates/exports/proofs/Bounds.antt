@@ -1,5 +1,4 @@
--- No place, count or number returned with a refusal passes 8,192. Forty numbers of at most three bytes: a sheet's faults lie in its first
--- 120, and one that ends too soon is shorter than that, so refusal 1's length is small though a sheet may be long.
+-- No place, count or number returned with a refusal passes 8,192.
 use Prim.Native.Nat.{ℕ, zero, suc, _+_, _*_, _≤_}
 use mathlib.Core.Path.{_≡_, refl, ap}
 use mathlib.Core.Bool.{Bool, true, false, cond}
@@ -12,12 +11,9 @@ use Rattle.season.specs.declared.Season.{Season}
 use Rattle.season.specs.Day.{AcceptedSeason}
 use Rattle.verdict.specs.declared.Verdict.{Verdict}
 use Rattle.verdict.specs.declared.Verdict.the-variants.{Accepted, Refused}
-use Rattle.verdict.specs.Refusals.{orRefused}
-use Rattle.sheet.proofs.Start.{Ends, numbers-end}
-use Rattle.sheet.specs.Numbers.{Run, run, stop, numbers, none, ended, numbersRead}
-use Rattle.sheet.specs.Fields.{limits, outside, lowestOutside, seasonOf}
-use Rattle.sheet.specs.Sheets.{fieldAtFault, fieldsVerdict, onlyAccepted, sheetOf}
-use Rattle.sheet.specs.Sheets as sheets
+use Rattle.verdict.proofs.First.{Refusal, first-refusal}
+use Rattle.sheet.proofs.Numbered.{refused-is}
+use Rattle.sheet.specs.Sheets.{sheetOf}
 use Rattle.season.specs.Sheet.{seasonDays}
 use Rattle.journal.specs.declared.Entry.{Entry}
 use Rattle.journal.specs.declared.Ledger.{Ledger}
@@ -25,7 +21,7 @@ use Rattle.journal.specs.declared.Stores.{Stores}
 use Rattle.journal.specs.declared.Recorded.{Recorded}
 use Rattle.journal.specs.declared.Mended.{Mended}
 use Rattle.journal.specs.declared.Opening.the-variants as found
-use Rattle.journal.specs.Entries.{waiting, start, refusal}
+use Rattle.journal.specs.Entries.{waiting, refusals, refusal}
 use Rattle.journal.specs.Opening.{opening}
 use Rattle.journal.specs.Calls.{storesOf, noStores, recordedWith, recordedOn, recorded, wipePlaces, notMended, mendedOn, mended}
 use Rattle.journal.specs.Claims.{StoresOccur}
@@ -48,52 +44,8 @@ use Rattle.exports.specs.Small.{SmallVerdict, SmallOpening, SmallRecorde
 
 -- ---- the sheet
 
-ended-small : (s : List ℕ) (r : Run) → Ends 120 r → SmallVerdict (ended s r .verdict)
-unfolding ended
-ended-small s (run vs at) h = test (ltb at (length s))
-  where
-    test : (b : Bool) → SmallVerdict (cond b (none 3 at) (record { fields = vs; verdict = Accepted }) .verdict)
-    test true = omega arith
-    test false = tt
-ended-small s (stop number place) h = omega arith
-
--- A field is one of forty.
-lowest-end : (i : ℕ) (ls : List _) (vs : List ℕ) → lowestOutside i ls vs ≤ i + length ls
-unfolding lowestOutside
-lowest-end i [] vs = omega arith
-lowest-end i (l ∷ ls) [] = omega arith
-lowest-end i (l ∷ ls) (v ∷ vs) = test (outside l v) (lowest-end (i + 1) ls vs)
-  where
-    test : (b : Bool) → lowestOutside (i + 1) ls vs ≤ i + 1 + length ls → cond b i (lowestOutside (i + 1) ls vs) ≤ i + length (l ∷ ls)
-    test true h = omega arith
-    test false h = omega arith
-
-or-small : (v : Verdict) (test : Bool) (number value : ℕ) → SmallVerdict v → value ≤ 8192 → SmallVerdict (orRefused v test number value)
-unfolding orRefused
-or-small Accepted true number value a h = h
-or-small Accepted false number value a h = tt
-or-small (Refused n w) test number value a h = a
-
-fields-small : (f : List ℕ) → SmallVerdict (fieldsVerdict f)
-unfolding fieldsVerdict
-fields-small f =
-    or-small _ _ 7 0 (or-small _ _ 6 0 (or-small _ _ 5 0 (or-small Accepted (ltb 0 (fieldAtFault f)) 4 (fieldAtFault f) tt
-    (omega (arith, lowest-end 1 (limits (getD f 0 0)) f))) (omega arith)) (omega arith)) (omega arith)
-
-pub sheet-small : (b : List ℕ) → SmallVerdict (sheetOf b .verdict)
-unfolding sheetOf numbersRead
-sheet-small b = judge (numbersRead b .verdict) (ended-small b (numbers 40 0 b) (numbers-end 40 0 120 b (omega arith)))
-  where
-    accepted : (v : Verdict) → SmallVerdict v → SmallVerdict (onlyAccepted (seasonOf (numbersRead b .fields)) v .verdict)
-    accepted Accepted a = tt
-    accepted (Refused number value) a = a
-
-    judge : (v : Verdict) → SmallVerdict v → SmallVerdict (sheets.judged (numbersRead b .fields) v .verdict)
-    judge Accepted a = accepted (fieldsVerdict (numbersRead b .fields)) (fields-small (numbersRead b .fields))
-    judge (Refused number value) a = a
-
 refused-small : (b : List ℕ) (number value : ℕ) → sheetOf b .verdict ≡ Refused number value → value ≤ 8192
-refused-small b number value e = rw e at (sheet-small b)
+refused-small b number value e = omega (arith, refused-is b number value e .1)
 
 -- ---- the journal
 
@@ -104,10 +56,15 @@ opened-small sheet area =
 
 -- ---- rain, irrigation and close
 
+small : (v : Verdict) → Refusal (λ number value. value ≤ 8192) v → SmallVerdict v
+small Accepted a = tt
+small (Refused number value) a = a
+
 entry-small : (days size : ℕ) (l : Ledger) (e : Entry) → SmallVerdict (refusal days size l e)
 unfolding refusal
 entry-small days size l e =
-    or-small _ _ 14 0 (or-small _ _ 13 0 (or-small _ _ 12 0 (or-small Accepted (ltb days (l .day)) 11 0 tt (omega arith)) (omega arith)) (omega arith)) (omega arith)
+    small (refusal days size l e)
+    (first-refusal (λ number value. value ≤ 8192) Accepted (refusals days size l e) tt (omega arith, (omega arith, (omega arith, (omega arith, tt)))))
 
 -- A verdict and a start place.
 record Begins (r : Recorded) : Type 0 where

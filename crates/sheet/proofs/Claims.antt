@@ -14,7 +14,7 @@ use Rattle.sheet.proofs.Accepted.{accepted-season, is-accepted}
 use Rattle.sheet.proofs.Written.{written-accepted}
 use Rattle.sheet.proofs.Lengths.{accepted-length}
 use Rattle.sheet.proofs.Start.{first-bytes-decide}
-use Rattle.sheet.proofs.Numbered.{refused-number}
+use Rattle.sheet.proofs.Numbered.{refused-is}
 use Rattle.sheet.proofs.Refusing.{refuses-first}
 
 pub claims : Claims
@@ -22,7 +22,7 @@ unfolding encode overGroups overIn decode decodeFrom below orRefused before numb
 claims = record {
   accepted-season = accepted-season;
   refused-empty = refused-empty;
-  refused-number = refused-number;
+  refused-number = λ b number value e. refused-is b number value e .0;
   refuses-first = refuses-first;
   written-accepted = written-accepted;
   accepted-as-written = λ b bytes e. is-accepted b e .as-written bytes;

@@ -123,7 +123,7 @@ accepted-verdict : (s : Season) (v : Verdict) → onlyAccepted s v .verdict ≡ 
 accepted-verdict s Accepted = refl
 accepted-verdict s (Refused number value) = refl
 
-judged-verdict : (f : List ℕ) (v : Verdict) → judged f v .verdict ≡ firstOf v (fieldLines f)
+pub judged-verdict : (f : List ℕ) (v : Verdict) → judged f v .verdict ≡ firstOf v (fieldLines f)
 unfolding fieldsVerdict
 judged-verdict f Accepted = accepted-verdict (seasonOf f) (fieldsVerdict f)
 judged-verdict f (Refused number value) = sym (first-refused number value (fieldLines f))

@@ -37,7 +37,7 @@ module _ (t y : List ℕ) where
 -- A run of numbers takes three bytes a number at most, and what is refused stands in the bytes of the number at fault.
 abbrev pub Ends : ℕ → Run → Type 0
 Ends most (Run.run vs end) = end ≤ most
-Ends most (Run.stop number place) = place ≤ most
+Ends most (Run.stop number place) = ((1 ≤ number) × (number ≤ 2)) × (place ≤ most)
 
 ends-before : (most v : ℕ) (r : Run) → Ends most r → Ends most (before v r)
 unfolding before
@@ -47,8 +47,8 @@ ends-before most v (Run.stop number place) h = h
 ends-by : (count at most : ℕ) (s : List ℕ) → at + 3 ≤ most → ((n : ℕ) → n ≤ 3 → Ends most (numbers count (at + n) s)) → (d : Number) → decode (drop at s) ≡ d
     → Ends most (numbers (suc count) at s)
 ends-by count at most s h ih (Whole v n) e = rw (numbers-whole count at s v n e) (ends-before most v _ (ih n (few-bytes (drop at s) v n e)))
-ends-by count at most s h ih Short e = rw (numbers-short count at s e) (omega (arith, length-drop at s, short-few (drop at s) e))
-ends-by count at most s h ih (Bad p) e = rw (numbers-bad count at s p e) (omega (arith, rw e at (reach-few (drop at s))))
+ends-by count at most s h ih Short e = rw (numbers-short count at s e) ((omega arith, omega arith), omega (arith, length-drop at s, short-few (drop at s) e))
+ends-by count at most s h ih (Bad p) e = rw (numbers-bad count at s p e) ((omega arith, omega arith), omega (arith, rw e at (reach-few (drop at s))))
 
 pub numbers-end : (count at most : ℕ) (s : List ℕ) → at + 3 * count ≤ most → Ends most (numbers count at s)
 unfolding numbers

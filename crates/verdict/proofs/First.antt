@@ -37,3 +37,22 @@ pub accepted-fails : (t : Bool) (n v : ℕ) (rs : List (Bool × ℕ × ℕ)) →
     → (t ≡ false) × (firstOf Accepted rs ≡ Accepted)
 accepted-fails true n v rs e = absurd (refused-accepted n v (sym (first-holds true n v rs refl) ∙ e))
 accepted-fails false n v rs e = (refl, sym (first-fails false n v rs refl) ∙ e)
+
+-- What holds of every line's number and value holds of the refusal that they give.
+abbrev pub Refusal : (ℕ → ℕ → Type 0) → Verdict → Type 0
+Refusal P Accepted = Unit {0}
+Refusal P (Refused number value) = P number value
+
+abbrev pub Lines : (ℕ → ℕ → Type 0) → List (Bool × ℕ × ℕ) → Type 0
+Lines P [] = Unit {0}
+Lines P (r ∷ rs) = P (r .1) (r .2) × Lines P rs
+
+or-refusal : (P : ℕ → ℕ → Type 0) (v : Verdict) (test : Bool) (number value : ℕ) → Refusal P v → P number value → Refusal P (orRefused v test number value)
+unfolding orRefused
+or-refusal P Accepted true number value a h = h
+or-refusal P Accepted false number value a h = tt
+or-refusal P (Refused n w) test number value a h = a
+
+pub first-refusal : (P : ℕ → ℕ → Type 0) (v : Verdict) (rs : List (Bool × ℕ × ℕ)) → Refusal P v → Lines P rs → Refusal P (firstOf v rs)
+first-refusal P v [] a h = a
+first-refusal P v (r ∷ rs) a h = first-refusal P (orRefused v (r .0) (r .1) (r .2)) rs (or-refusal P v (r .0) (r .1) (r .2) a (h .0)) (h .1)
