@@ -48,7 +48,7 @@ tabled-length (table.Rows count) = omega arith
 tabled-length (table.Refused number value) = omega arith
 
 stores-length : (v : Verdict) (w : Stores) → StoresOccur v w → length (numbersThen v (w .start ∷ w .count ∷ w .bytes)) ≤ 12
-stores-length Accepted w h = omega (arith, h .four)
+stores-length Accepted w h = omega (arith, h .size)
 stores-length (Refused number value) w h = omega arith
 
 places-length : (v : Verdict) (r : Mended) → Placed r → length (numbersThen v (r .count ∷ r .places)) ≤ 12

@@ -35,9 +35,9 @@ returns c =
     let start = at-record .before .before .before in
     let w = at-record .«record» .result .stores in
     let case = entry-case _ (at-enum-told .enum-told .given .1) in
-    let four = holds-by case (at-record .«record» .ensures) RecordedOccurs (claims .recorded-occurs _ _ _) .four in
+    let size = holds-by case (at-record .«record» .ensures) RecordedOccurs (claims .recorded-occurs _ _ _) .size in
     written-by case (at-record .«record» .ensures) recordedOut _
-    (c .put-stores .ensures ∙ ap (λ (bs : List ℕ). writtenOver (0 ∷ 0 ∷ w .start ∷ w .count ∷ bs) (now (start .args .out))) (four-are (w .bytes) four))
+    (c .put-stores .ensures ∙ ap (λ (bs : List ℕ). writtenOver (0 ∷ 0 ∷ w .start ∷ w .count ∷ bs) (now (start .args .out))) (four-are (w .bytes) size))
 
 returns-2 : tie.Need-returns-2
 returns-2 c =
