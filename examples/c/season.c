@@ -1,4 +1,5 @@
-/* A season of four days on the small sheet of document 01, with two power cuts. Prints the ledger. */
+/* A season of four days on the small sheet of document 01, with two power cuts. Prints the decade table and the
+ * ledger. */
 #include "balladsky.h"
 #include <stdio.h>
 #include <stdlib.h>
@@ -16,10 +17,20 @@ static uint8_t area[64];
 static uint32_t out[BALLADSKY_OUT];
 
 static void must(const char *what) {
-    if (out[0] != 0) {
+    if (out[0] != BALLADSKY_ACCEPTED) {
         fprintf(stderr, "%s: refused %u %u\n", what, out[0], out[1]);
         exit(1);
     }
+}
+
+/* Six numbers a row. */
+static void print_table(void) {
+    uint32_t rows[BALLADSKY_ROWS];
+    balladsky_table(sheet, sizeof sheet, rows, BALLADSKY_ROWS, out);
+    must("table");
+    printf("table: %u row%s\n", out[2], out[2] == 1 ? "" : "s");
+    for (uint32_t i = 0; i < 6 * out[2]; i++)
+        printf("%u%c", rows[i], i % 6 == 5 ? '\n' : ' ');
 }
 
 /* The first `done` stores of an entry, lowest place first. */
@@ -31,13 +42,16 @@ static void store(uint32_t done) {
 /* What firmware does when it comes up: open, and mend what a cut left. */
 static void come_up(void) {
     balladsky_open(sheet, sizeof sheet, area, sizeof area, out);
-    if (out[0] == 10) {
+    if (out[0] == BALLADSKY_TORN) {
         printf("torn at %u\n", out[1]);
         balladsky_mend(sheet, sizeof sheet, area, sizeof area, out);
         must("mend");
-        for (uint32_t i = 0; i < out[2]; i++)
+        printf("mended %u place%s:", out[2], out[2] == 1 ? "" : "s");
+        for (uint32_t i = 0; i < out[2]; i++) {
             area[out[3 + i]] = 0xFF;
-        printf("mended %u place%s\n", out[2], out[2] == 1 ? "" : "s");
+            printf(" %u", out[3 + i]);
+        }
+        printf("\n");
     } else {
         must("open");
     }
@@ -65,12 +79,21 @@ static void close_day(unsigned day) {
     printf("day %u closed\n", day);
 }
 
-int main(void) {
+static void print_ledger(void) {
     static const char *const names[] = {
-        "open day", "depletion", "waiting rain", "waiting irrigation", "season rain", "season irrigation", "season use", "season percolation", "place",
+        "open day", "depletion", "waiting rain", "waiting irrigation", "season rain", "season irrigation", "season use",
+        "season percolation", "place",
     };
+    balladsky_open(sheet, sizeof sheet, area, sizeof area, out);
+    must("open");
+    for (int i = 0; i < 9; i++)
+        printf("%s %u\n", names[i], out[2 + i]);
+}
+
+int main(void) {
     uint32_t depths[BALLADSKY_DEPTHS];
     memset(area, 0xFF, sizeof area);
+    print_table();
     enter_with_cut("rain", balladsky_rain, 300, 2);
     close_day(1);
     close_day(2);
@@ -80,9 +103,6 @@ int main(void) {
     enter_with_cut("irrigation", balladsky_irrigation, depths[0], 1);
     close_day(3);
     close_day(4);
-    balladsky_open(sheet, sizeof sheet, area, sizeof area, out);
-    must("open");
-    for (int i = 0; i < 9; i++)
-        printf("%s %u\n", names[i], out[2 + i]);
+    print_ledger();
     return 0;
 }

@@ -1,7 +1,32 @@
-//! The seven calls of include/balladsky.h for Rust. The header says what each writes; a reference here has what the header asks of a pointer.
+//! The seven calls of include/balladsky.h for Rust. The header says what each writes and what its names stand for; a
+//! reference here has what the header asks of a pointer.
 
 /// What a call writes: document 01's number, the number returned with it, then the answer.
-pub type Out = [u32; 12];
+pub type Out = [u32; OUT];
+
+pub const OUT: usize = 12;
+pub const AREA: usize = 8192;
+pub const DEPTHS: usize = 365;
+pub const ROWS: usize = 222;
+
+/// What out[0] says: accepted, or clean; torn, from open; else a refusal.
+pub const ACCEPTED: u32 = 0;
+pub const SHEET_ENDS: u32 = 1;
+pub const BAD_NUMBER: u32 = 2;
+pub const BYTES_FOLLOW: u32 = 3;
+pub const FIELD_OUT_OF_RANGE: u32 = 4;
+pub const SEASON_TOO_LONG: u32 = 5;
+pub const ROOTS_SHRINK: u32 = 6;
+pub const OPENING_TOO_DRY: u32 = 7;
+pub const AREA_TOO_LONG: u32 = 8;
+pub const DAMAGED: u32 = 9;
+pub const TORN: u32 = 10;
+pub const ALL_CLOSED: u32 = 11;
+pub const AMOUNT_OUT_OF_RANGE: u32 = 12;
+pub const DAY_OVERFULL: u32 = 13;
+pub const AREA_FULL: u32 = 14;
+pub const BUFFER_TOO_SHORT: u32 = 15;
+pub const NO_CHOICE: u32 = 16;
 
 mod c {
     extern "C" {

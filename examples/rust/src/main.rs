@@ -1,5 +1,6 @@
-//! A season of four days on the small sheet of document 01, with two power cuts. Prints the ledger.
-use balladsky::{close, irrigation, mend, open, plan, rain, Out};
+//! A season of four days on the small sheet of document 01, with two power cuts. Prints the decade table and the
+//! ledger.
+use balladsky::{close, irrigation, mend, open, plan, rain, table, Out, ACCEPTED, DEPTHS, OUT, ROWS, TORN};
 
 /// 1 9; 1 1 1 1; 40 100 60; 500 and eleven 0; twelve 0; 100 20 20 50; 75; 0; turns 127.
 const SHEET: [u8; 41] = [
@@ -21,22 +22,36 @@ impl Firmware {
     }
 
     fn accepted(&self, what: &str) {
-        assert_eq!(self.out[0], 0, "{what}: refused {} {}", self.out[0], self.out[1]);
+        assert_eq!(self.out[0], ACCEPTED, "{what}: refused {} {}", self.out[0], self.out[1]);
+    }
+
+    /// Six numbers a row.
+    fn print_table(&mut self) {
+        let mut rows = [0; ROWS];
+        table(&SHEET, &mut rows, &mut self.out);
+        self.accepted("table");
+        let count = self.out[2] as usize;
+        println!("table: {count} row{}", if count == 1 { "" } else { "s" });
+        for row in rows.chunks(6).take(count) {
+            println!("{} {} {} {} {} {}", row[0], row[1], row[2], row[3], row[4], row[5]);
+        }
     }
 
     /// What firmware does when it comes up: open, and mend what a cut left.
     fn come_up(&mut self) {
         open(&SHEET, &self.area, &mut self.out);
-        if self.out[0] != 10 {
+        if self.out[0] != TORN {
             return self.accepted("open");
         }
         println!("torn at {}", self.out[1]);
         mend(&SHEET, &self.area, &mut self.out);
         self.accepted("mend");
-        for i in 0..self.out[2] as usize {
-            self.area[self.out[3 + i] as usize] = 0xff;
+        print!("mended {} place{}:", self.out[2], if self.out[2] == 1 { "" } else { "s" });
+        for place in &self.out[3..][..self.out[2] as usize] {
+            self.area[*place as usize] = 0xff;
+            print!(" {place}");
         }
-        println!("mended {} place{}", self.out[2], if self.out[2] == 1 { "" } else { "s" });
+        println!();
     }
 
     /// Enters water; the power goes after `cut` stores, and it is entered again.
@@ -58,11 +73,24 @@ impl Firmware {
         self.store(self.out[3]);
         println!("day {day} closed");
     }
+
+    fn print_ledger(&mut self) {
+        open(&SHEET, &self.area, &mut self.out);
+        self.accepted("open");
+        let names = [
+            "open day", "depletion", "waiting rain", "waiting irrigation", "season rain", "season irrigation",
+            "season use", "season percolation", "place",
+        ];
+        for (name, value) in names.iter().zip(&self.out[2..]) {
+            println!("{name} {value}");
+        }
+    }
 }
 
 fn main() {
-    let mut f = Firmware { area: [0xff; 64], out: [0; 12] };
-    let mut depths = [0; 365];
+    let mut f = Firmware { area: [0xff; 64], out: [0; OUT] };
+    let mut depths = [0; DEPTHS];
+    f.print_table();
     f.enter_with_cut("rain", rain, 300, 2);
     f.close_day(1);
     f.close_day(2);
@@ -73,12 +101,5 @@ fn main() {
     f.enter_with_cut("irrigation", irrigation, depths[0], 1);
     f.close_day(3);
     f.close_day(4);
-    open(&SHEET, &f.area, &mut f.out);
-    f.accepted("open");
-    let names = [
-        "open day", "depletion", "waiting rain", "waiting irrigation", "season rain", "season irrigation", "season use", "season percolation", "place",
-    ];
-    for (name, value) in names.iter().zip(&f.out[2..]) {
-        println!("{name} {value}");
-    }
+    f.print_ledger();
 }
