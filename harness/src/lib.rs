@@ -1,3 +1,5 @@
-//! Document 01 in plain Rust, and random sheets and journals to try it and the library on.
+//! Document 01 in plain Rust, random sheets and journals to try it and the library on, and memory that shows what a
+//! call touches.
+pub mod memory;
 pub mod plain;
 pub mod random;

@@ -1,9 +1,13 @@
-//! Compares the static library with the plain implementation on random cases: sheets valid and damaged, journals clean, torn and damaged,
-//! areas of 0 to 8,193 bytes, histories with a cut after every store. The whole of `out` and of each lent buffer is compared, noise beyond
-//! the answer included; histories are compared with the book too. Prints its seed; stops with status 1 at the first difference.
+//! Compares the static library with the plain implementation on random cases: sheets valid and damaged, journals clean,
+//! torn and damaged, areas of 0 to 8,193 bytes, histories with a cut after every store. The whole of `out` and of each
+//! lent buffer is compared, noise beyond the answer included; histories are compared with the book too. In every case
+//! each buffer that the library is given ends before a guard page or begins behind one, so that a read or write past it
+//! is a fault, and sheet and area must be as they were. Then lengths from 2^16 to 2^32 and a little more, which are
+//! other lengths to whoever keeps fewer bits. Prints its seed; stops with status 1 at the first difference or fault.
 //!
 //!     cargo run --release --manifest-path harness/Cargo.toml [SEED]
 use balladsky as library;
+use harness::memory::{self, Guarded, Side};
 use harness::plain::book::{self, Book, Call};
 use harness::plain::{self, Opened};
 use harness::random::{self, Dice};
@@ -12,11 +16,35 @@ use harness::random::{self, Dice};
 #[derive(Clone, Copy, Debug)]
 enum Ask { Open, Rain(u32), Irrigation(u32), Close, Mend, Plan(usize), Table(usize) }
 
+impl Ask {
+    /// Which of the seven it is, from 0.
+    fn kind(self) -> usize {
+        match self {
+            Ask::Open => 0,
+            Ask::Rain(_) => 1,
+            Ask::Irrigation(_) => 2,
+            Ask::Close => 3,
+            Ask::Mend => 4,
+            Ask::Plan(_) => 5,
+            Ask::Table(_) => 6,
+        }
+    }
+
+    /// How many numbers are lent.
+    fn lent(self) -> usize {
+        match self {
+            Ask::Plan(count) | Ask::Table(count) => count,
+            _ => 0,
+        }
+    }
+}
+
 /// `out` and the lent buffer.
 type Answer = ([u32; 12], Vec<u32>);
 
-fn by_library(sheet: &[u8], area: &[u8], ask: Ask, (out, lent): &mut Answer) {
-    match ask {
+fn by_library(sheet: &[u8], area: &[u8], ask: Ask, out: &mut [u32; 12], lent: &mut [u32]) {
+    let message = || format!("the library's {ask:?} touched what it was not given\n{}", given(sheet, area));
+    memory::watched(&message, || match ask {
         Ask::Open => library::open(sheet, area, out),
         Ask::Rain(v) => library::rain(sheet, area, v, out),
         Ask::Irrigation(v) => library::irrigation(sheet, area, v, out),
@@ -24,7 +52,7 @@ fn by_library(sheet: &[u8], area: &[u8], ask: Ask, (out, lent): &mut Answer) {
         Ask::Mend => library::mend(sheet, area, out),
         Ask::Plan(_) => library::plan(sheet, area, lent, out),
         Ask::Table(_) => library::table(sheet, lent, out),
-    }
+    })
 }
 
 /// An opening's numbers.
@@ -47,7 +75,7 @@ fn recorded(r: plain::Recorded) -> Vec<u32> {
     }
 }
 
-fn by_plain(sheet: &[u8], area: &[u8], ask: Ask, (out, lent): &mut Answer) {
+fn by_plain(sheet: &[u8], area: &[u8], ask: Ask, out: &mut [u32; 12], lent: &mut [u32]) {
     let numbers = match ask {
         Ask::Open => opened(plain::open(sheet, area)),
         Ask::Rain(v) => recorded(plain::rain(sheet, area, v)),
@@ -69,12 +97,17 @@ fn by_plain(sheet: &[u8], area: &[u8], ask: Ask, (out, lent): &mut Answer) {
     out[..numbers.len()].copy_from_slice(&numbers);
 }
 
+/// At most 8,193 bytes are shown.
 fn hex(bytes: &[u8]) -> String {
-    bytes.iter().map(|b| format!("{b:02x}")).collect()
+    bytes.iter().take(8_193).map(|b| format!("{b:02x}")).collect()
+}
+
+fn given(sheet: &[u8], area: &[u8]) -> String {
+    format!("sheet ({} bytes) {}\narea ({} bytes) {}", sheet.len(), hex(sheet), area.len(), hex(area))
 }
 
 fn differ(what: &str, sheet: &[u8], area: &[u8], ask: Ask, left: &Answer, right: &Answer) -> ! {
-    println!("DIFFERENCE: {what}, {ask:?}\nsheet {}\narea ({} bytes) {}", hex(sheet), area.len(), hex(area));
+    println!("DIFFERENCE: {what}, {ask:?}\n{}", given(sheet, area));
     println!("library {:?}\nother   {:?}", left.0, right.0);
     if let Some(i) = (0..left.1.len()).find(|&i| left.1[i] != right.1[i]) {
         println!("lent buffer, number {i}: library {}, other {}", left.1[i], right.1[i]);
@@ -82,30 +115,52 @@ fn differ(what: &str, sheet: &[u8], area: &[u8], ask: Ask, left: &Answer, right:
     std::process::exit(1)
 }
 
-struct Tally { cases: u64, answers: [[u64; 17]; 7] }
+/// A place beside guard pages for each buffer that the library is given, and how many ended before one and began behind
+/// one.
+struct Guards { sheet: Guarded, area: Guarded, out: Guarded, lent: Guarded, ended: u64, began: u64 }
+
+impl Guards {
+    fn new() -> Guards {
+        let room = || Guarded::new(8_193);
+        Guards { sheet: room(), area: room(), out: room(), lent: room(), ended: 0, began: 0 }
+    }
+
+    /// The library's answer over `before`. A bit of `sides` for each buffer says which of its ends is at a guard page.
+    fn ask(&mut self, sheet: &[u8], area: &[u8], ask: Ask, before: &Answer, sides: u32) -> Answer {
+        let side = |bit: u32| if sides >> bit & 1 == 0 { Side::Ends } else { Side::Begins };
+        let (s, a) = (self.sheet.bytes(sheet, side(0)), self.area.bytes(area, side(1)));
+        let (out, lent) = (self.out.numbers(&before.0, side(2)), self.lent.numbers(&before.1, side(3)));
+        let out: &mut [u32; 12] = out.try_into().unwrap();
+        by_library(s, a, ask, out, lent);
+        let answer = (*out, lent.to_vec());
+        if (&*s, &*a) != (sheet, area) {
+            differ("sheet or area was written", sheet, area, ask, &answer, before);
+        }
+        self.began += (sides & 0xf).count_ones() as u64;
+        self.ended += (!sides & 0xf).count_ones() as u64;
+        answer
+    }
+}
+
+/// What `out` holds before a call.
+fn noisy(noise: u32) -> [u32; 12] {
+    std::array::from_fn(|i| noise.wrapping_mul(i as u32 + 1))
+}
+
+struct Tally { cases: u64, answers: [[u64; 17]; 7], guards: Guards }
 
 impl Tally {
     /// One case: both are asked the same, with the same noise in what is lent.
     fn same(&mut self, g: &mut Dice, sheet: &[u8], area: &[u8], ask: Ask) -> [u32; 12] {
-        let (kind, size) = match ask {
-            Ask::Open => (0, 0),
-            Ask::Rain(_) => (1, 0),
-            Ask::Irrigation(_) => (2, 0),
-            Ask::Close => (3, 0),
-            Ask::Mend => (4, 0),
-            Ask::Plan(size) => (5, size),
-            Ask::Table(size) => (6, size),
-        };
         let noise = g.next() as u32;
-        let mut left: Answer = (std::array::from_fn(|i| noise.wrapping_mul(i as u32 + 1)), (0..size as u32).map(|i| noise ^ i).collect());
-        let mut right = left.clone();
-        by_library(sheet, area, ask, &mut left);
-        by_plain(sheet, area, ask, &mut right);
+        let mut right: Answer = (noisy(noise), (0..ask.lent() as u32).map(|i| noise ^ i).collect());
+        let left = self.guards.ask(sheet, area, ask, &right, noise >> 28);
+        by_plain(sheet, area, ask, &mut right.0, &mut right.1);
         if left != right {
             differ("plain implementation", sheet, area, ask, &left, &right);
         }
         self.cases += 1;
-        self.answers[kind][left.0[0] as usize] += 1;
+        self.answers[ask.kind()][left.0[0] as usize] += 1;
         left.0
     }
 
@@ -194,7 +249,7 @@ fn asking(call: Call) -> Ask {
 /// The stores that an answer hands back, in order.
 fn stores(call: Call, out: &[u32; 12]) -> Vec<(usize, u8)> {
     match call {
-        _ if out[0] != 0 => Vec::new(),
+        _ if out[0] != library::ACCEPTED => Vec::new(),
         Call::Mend => (0..out[2] as usize).map(|i| (out[3 + i] as usize, 0xff)).collect(),
         _ => (0..out[3] as usize).map(|i| (out[2] as usize + i, out[4 + i] as u8)).collect(),
     }
@@ -258,11 +313,102 @@ fn histories(t: &mut Tally, g: &mut Dice) -> (u64, u64) {
     (calls, torn)
 }
 
+/// How many numbers at either end of a long buffer are noise before a call and compared after it.
+const ENDS: usize = 400;
+
+fn ends(lent: &[u32]) -> Vec<u32> {
+    let k = lent.len().min(ENDS);
+    [&lent[..k], &lent[lent.len() - k..]].concat()
+}
+
+/// The small sheet, a blank area and two lent buffers, one for each implementation, with room for 2^32 elements and
+/// more. To whoever keeps fewer bits of such a length the sheet is whole or ends early, and the area and the lent
+/// buffer are short.
+struct Long { sheet: &'static mut [u8], area: &'static mut [u8], lent: [&'static mut [u32]; 2], cases: u64 }
+
+/// The calls on a journal; a plan of the small sheet takes four numbers.
+const ON_JOURNAL: [Ask; 6] = [Ask::Open, Ask::Rain(300), Ask::Irrigation(700), Ask::Close, Ask::Mend, Ask::Plan(4)];
+
+const SMALL: usize = 41;
+
+impl Long {
+    fn new() -> Long {
+        let most = (1 << 32) + 8_192;
+        let (sheet, area) = (memory::long_bytes(most), memory::long_bytes(most));
+        sheet[..SMALL].copy_from_slice(&plain::write_sheet(&random::small(127)));
+        area[..8_192].fill(0xff);
+        Long { sheet, area, lent: [memory::long_numbers(most), memory::long_numbers(most)], cases: 0 }
+    }
+
+    /// What one of the implementations answers, and what stood there before: noise.
+    fn answer(&mut self, which: usize, sheet: usize, area: usize, ask: Ask) -> (Answer, Answer) {
+        let (lent, mut out) = (&mut self.lent[which][..ask.lent()], noisy(7));
+        let k = lent.len().min(ENDS);
+        lent[..k].fill(8);
+        lent.iter_mut().rev().take(k).for_each(|v| *v = 9);
+        let before = (out, ends(lent));
+        [by_library, by_plain][which](&self.sheet[..sheet], &self.area[..area], ask, &mut out, lent);
+        ((out, ends(lent)), before)
+    }
+
+    /// One case. Document 01 has `out` and `numbers` for the first numbers of `out` and of the lent buffer.
+    fn case(&mut self, sheet: usize, area: usize, ask: Ask, out: &[u32], numbers: &[u32]) {
+        let ((left, mut want), (right, _)) = (self.answer(0, sheet, area, ask), self.answer(1, sheet, area, ask));
+        want.0[..out.len()].copy_from_slice(out);
+        want.1[..numbers.len()].copy_from_slice(numbers);
+        for (what, other) in [("plain implementation", right), ("document 01", want)] {
+            if left != other {
+                differ(what, &self.sheet[..sheet], &self.area[..area], ask, &left, &other);
+            }
+        }
+        self.cases += 1;
+    }
+
+    /// Bytes follow the fortieth number.
+    fn sheets(&mut self, length: usize) {
+        for ask in ON_JOURNAL.into_iter().chain([Ask::Table(12)]) {
+            self.case(length, 64, ask, &[3, SMALL as u32], &[]);
+        }
+    }
+
+    /// The area is longer than 8,192.
+    fn areas(&mut self, length: usize) {
+        for ask in ON_JOURNAL {
+            self.case(SMALL, length, ask, &[8, 0], &[]);
+        }
+    }
+
+    /// The plan and the table of the small sheet, as document 01 prints them.
+    fn buffers(&mut self, count: usize) {
+        let rows = [1, 1, 700, 0, 700, 934, 1, 2, 800, 0, 800, 1_067];
+        self.case(SMALL, 64, Ask::Plan(count), &[0, 0, 1, 700, 934], &[0, 0, 700, 0]);
+        self.case(SMALL, 64, Ask::Table(count), &[0, 0, 2], &rows);
+    }
+}
+
+/// Lengths of 2^16, 2^31 and 2^32 and a little more.
+fn long_lengths() -> u64 {
+    let mut long = Long::new();
+    for base in [1 << 16, 1 << 31, 1 << 32] {
+        for more in [0, 40, 41] {
+            long.sheets(base + more);
+        }
+        for more in [0, 9, 8_192] {
+            long.areas(base + more);
+        }
+        for more in [0, 3] {
+            long.buffers(base + more);
+        }
+    }
+    long.cases
+}
+
 fn main() {
     let seed = std::env::args().nth(1).map_or(20_261_115, |s| s.parse().expect("the seed is a number"));
     println!("seed {seed}");
     let mut g = Dice(seed);
-    let mut t = Tally { cases: 0, answers: [[0; 17]; 7] };
+    let mut t = Tally { cases: 0, answers: [[0; 17]; 7], guards: Guards::new() };
+    memory::report_faults();
     let parts: [(&str, fn(&mut Tally, &mut Dice)); 4] = [
         ("sheets, valid and damaged", sheets), ("areas of 0 to 8,193 bytes", lengths), ("journals clean, torn and damaged", journals),
         ("plans and tables of long seasons", plans),
@@ -275,6 +421,8 @@ fn main() {
     let before = t.cases;
     let (calls, torn) = histories(&mut t, &mut g);
     println!("histories, a cut after every store: {} cases, {calls} calls, {torn} torn openings", t.cases - before);
+    println!("guard pages: {} buffers ended before one, {} began behind one", t.guards.ended, t.guards.began);
+    println!("lengths of 2^16, 2^31 and 2^32 and more: {} cases beside those counted below", long_lengths());
     for (name, seen) in ["open", "rain", "irrigation", "close", "mend", "plan", "table"].iter().zip(t.answers) {
         let seen: Vec<String> = seen.iter().enumerate().filter(|(_, n)| **n > 0).map(|(k, n)| format!("{k}: {n}")).collect();
         println!("{name}, answers by number: {}", seen.join(", "));

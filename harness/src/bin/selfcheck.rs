@@ -1,5 +1,6 @@
-//! Checks the plain implementation itself: against document 01's own numbers, a second reader of sheets, slow rules, every choice of
-//! waterings in small seasons, the book, and a literal reading of what an opening finds.
+//! Checks the plain implementation itself: against document 01's own numbers, a second reader of sheets, slow rules,
+//! every choice of waterings in small seasons, the book, and a literal reading of what an opening finds. It takes some
+//! minutes; 10 percent of the rounds take seconds. Status 1 at a mismatch.
 //!
 //!     cargo run --release --manifest-path harness/Cargo.toml --bin selfcheck [SEED [PERCENT OF THE ROUNDS]]
 use harness::plain::book::{self, Book, Call};
