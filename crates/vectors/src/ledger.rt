@@ -84,8 +84,8 @@ fn ledger_number(l: Ledger, which: u32) -> u64 {
     }
 }
 
-// A number of what opening answers: 1 open day, 2 depletion, 3 and 4 waiting rain and irrigation, 5 and 6 season rain and irrigation, 7 use,
-// 8 percolation, 9 the place. 0 where the journal is not clean.
+// A number of what opening answers: 1 open day, 2 depletion, 3 and 4 waiting rain and irrigation, 5 and 6 season rain
+// and irrigation, 7 use, 8 percolation, 9 the place. 0 where the journal is not clean.
 pub fn opened(sheet: &[u8], area: &[u8], which: u32) -> u64 {
     match controller::open(sheet, area) {
         Opening::Clean(l) => ledger_number(l, which),

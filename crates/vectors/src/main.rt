@@ -1,8 +1,11 @@
 // Runs the printed tables of the sources through the product and compares each figure at its printed precision.
 //
-// A line of a group's data is a figure: the printed figure, the tolerance (half its last digit, more where the inputs are themselves rounded),
-// the reason why it differs (0: it agrees), the inputs; a label behind ';'. A line that starts with '=' is the sheet that stands for the lines
-// behind it, its forty numbers; one that starts with '#' says where the figures are printed. A figure with a reason must differ.
+// A line of a group's data is a figure: the printed figure, the tolerance (half its last digit, more where the inputs
+// are themselves rounded), the reason why it differs (0: it agrees), the deviation, the inputs; a label behind ';'. The
+// deviation is how far the printed figure is from what document 01's rule gives, by a separate reading of it; 0 where
+// there is no reason. A figure with a reason must be off by more than the tolerance and by at most the deviation.
+// A line that starts with '=' is the sheet that stands for the lines behind it, its forty numbers; one that starts with
+// '+' is a day; one that starts with '#' says where the figures are printed.
 mod ledger;
 mod rules;
 mod sheets;
@@ -20,7 +23,7 @@ struct Tally {
     wrong: u64,
 }
 
-// What a line was: no figure, one that agrees, one that differs as it should, or a mismatch.
+// What a line was: no figure, one that agrees, one that differs as its reason says, or a mismatch.
 enum Outcome {
     Nothing,
     Agrees,
@@ -78,29 +81,47 @@ impl Tally {
     }
 }
 
-fn print_mismatch(line: &[u8], printed: u32, got: u64) {
+// How far off a figure with a reason has to be.
+fn print_deviation(numbers: &[u32]) {
+    print(b" off by more than ");
+    print_number(get(numbers, 1) as u64);
+    print(b" and at most ");
+    print_number(get(numbers, 3) as u64);
+}
+
+fn print_mismatch(line: &[u8], numbers: &[u32], got: u64) {
     print(b"mismatch");
     text::print_label(line);
     print(b": expected ");
-    print_number(printed as u64);
+    print_number(get(numbers, 0) as u64);
+    if get(numbers, 2) != 0 {
+        print_deviation(numbers);
+    }
     print(b", got ");
     print_number(got);
     print(b"\n");
 }
 
+// Whether a figure is off as its line says.
+fn as_stated(numbers: &[u32], off: u64) -> bool {
+    let tolerance = get(numbers, 1) as u64;
+    let deviation = get(numbers, 3) as u64;
+    if get(numbers, 2) == 0 {
+        return off <= tolerance && deviation == 0;
+    }
+    tolerance < off && off <= deviation
+}
+
 // Compares the figure of a line with the product's answer.
 fn compared(line: &[u8], numbers: &[u32], got: u64) -> Outcome {
-    let printed = get(numbers, 0);
-    let near = distance(got, printed as u64) <= get(numbers, 1) as u64;
-    let known = get(numbers, 2) != 0;
-    if near == known {
-        print_mismatch(line, printed, got);
+    if !as_stated(numbers, distance(got, get(numbers, 0) as u64)) {
+        print_mismatch(line, numbers, got);
         return Outcome::Mismatch;
     }
-    if known {
-        return Outcome::Differs;
+    if get(numbers, 2) == 0 {
+        return Outcome::Agrees;
     }
-    Outcome::Agrees
+    Outcome::Differs
 }
 
 // A line of figures or of a day, by a rule.

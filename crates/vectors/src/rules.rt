@@ -1,5 +1,6 @@
-// What the product answers for a line of numbers. Its first three are the printed figure, the tolerance and the reason; inputs follow.
-// Where a rule asks about a season, two numbers follow (a day, or a row and a column) and then places of the sheet with their values.
+// What the product answers for a line of numbers. Its first four are the printed figure, the tolerance, the reason and
+// the deviation; inputs follow. Where a rule asks about a season, two numbers follow (a day, or a row and a column) and
+// then places of the sheet with their values.
 use crate::ledger;
 use crate::sheets;
 use season::DayClose;
@@ -142,14 +143,14 @@ fn percent(part: u32, total: u32) -> u64 {
     part as u64 * 10000 / total as u64
 }
 
-// Sets places of a sheet, by the pairs behind a line's first five numbers: a field, counted from 1, and its value.
+// Sets places of a sheet, by the pairs behind a line's first six numbers: a field, counted from 1, and its value.
 pub fn set_fields(fields: &mut [u32], numbers: &[u32]) {
     let mut pair: usize = 0;
     while pair < 45 {
         set_field(
             fields,
-            get(numbers, 5 + 2 * pair),
             get(numbers, 6 + 2 * pair),
+            get(numbers, 7 + 2 * pair),
         );
         pair += 1;
     }
@@ -205,13 +206,13 @@ fn write_own(fields: [u32; 40], numbers: &[u32], bytes: &mut [u8]) -> usize {
 
 // The product's answer, by the line's numbers and the sheet that stands.
 pub fn answer(rule: u32, numbers: &[u32], fields: [u32; 40]) -> u64 {
-    let a = get(numbers, 3);
-    let b = get(numbers, 4);
+    let a = get(numbers, 4);
+    let b = get(numbers, 5);
     match rule {
         RAIN => rain(a),
         GROSS => gross(a, b),
         NET => season::saturating_sub(a, b) as u64,
-        USE => close(a, 0, b, get(numbers, 5), get(numbers, 6)).used as u64,
+        USE => close(a, 0, b, get(numbers, 6), get(numbers, 7)).used as u64,
         _ => {
             let mut bytes = [0u8; 121];
             let k = write_own(fields, numbers, &mut bytes);
@@ -229,12 +230,12 @@ pub fn answer_after_days(
     balance: &[u32],
     area: &[u8],
 ) -> u64 {
-    let which = get(numbers, 3);
+    let which = get(numbers, 4);
     if rule == BALANCE {
         return get(balance, which as usize) as u64;
     }
     if which == 0 {
-        return get_byte(area, get(numbers, 4) as usize) as u64;
+        return get_byte(area, get(numbers, 5) as usize) as u64;
     }
     let mut bytes = [0u8; 121];
     let k = sheets::write_sheet(&fields, &mut bytes);

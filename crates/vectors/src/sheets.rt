@@ -220,7 +220,8 @@ fn quotient(n: u64, count: u64) -> u64 {
     if count == 0 { 0 } else { n / count }
 }
 
-// Of the plan on a blank journal: 1 the refusal's number × 1000 and its day, 2 the waterings, 3 the net total, 4 the gross total.
+// Of the plan on a blank journal: 1 the refusal's number × 1000 and its day, 2 the waterings, 3 the net total, 4 the
+// gross total.
 pub fn plan_number(sheet: &[u8], which: u32) -> u64 {
     let mut depths = [0u32; 365];
     match controller::plan(sheet, b"", &mut depths) {

@@ -1,4 +1,5 @@
-// Lines of numbers: the data's form. A line's numbers stand before its first ';', parted by anything that is no digit; its label stands behind.
+// Lines of numbers: the data's form. A line's numbers stand before its first ';', parted by anything that is no digit;
+// its label stands behind.
 use libc::STDOUT_FILENO;
 use trial::put;
 use trial::saturating_add;
