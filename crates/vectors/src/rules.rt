@@ -42,7 +42,7 @@ pub const READY: u32 = 10;
 // The date of a day: month × 100 and day.
 pub const DATE: u32 = 11;
 
-// The days before the first that no choice holds, up to a limit.
+// The days before the first that no choice holds.
 pub const HELD: u32 = 12;
 
 // A number of the decade table, by row and column.
@@ -127,14 +127,6 @@ fn rounded(n: u32, unit: u32) -> u64 {
     if rest <= half_up { half_up - rest } else { 0 }
 }
 
-// n, but no more than a limit; 0 is no limit.
-fn at_most(n: u64, limit: u32) -> u64 {
-    if limit == 0 {
-        return n;
-    }
-    if limit as u64 <= n { limit as u64 } else { n }
-}
-
 // A part in hundredths of a percent of a total.
 fn percent(part: u32, total: u32) -> u64 {
     if total == 0 {
@@ -184,7 +176,7 @@ fn of_sheet(rule: u32, sheet: &[u8], a: u32, b: u32) -> u64 {
         TOTAL => sheets::day_numbers(sheet, a).total as u64,
         READY => sheets::day_numbers(sheet, a).ready as u64,
         DATE => sheets::day_numbers(sheet, a).date,
-        HELD => at_most(sheets::days_held(sheet), b),
+        HELD => sheets::days_held(sheet),
         CELL => sheets::cell(sheet, a, b) as u64,
         SUM => sheets::column_sum(sheet, a),
         ROWS => sheets::rows(sheet) as u64,
