@@ -237,7 +237,17 @@ fn run_printed_seasons(before: Tally) -> Tally {
         .run(b"daily_balances", rules::BALANCE)
 }
 
-// Whole answers by document 01's rules.
+// Document 01's rules by a separate reading of them: what no source prints.
+fn run_exact_rules(before: Tally) -> Tally {
+    before
+        .run(b"rule_rain", rules::RAIN)
+        .run(b"rule_ready", rules::READY)
+        .run(b"rule_gross", rules::GROSS)
+        .run(b"rule_use", rules::USE)
+        .run(b"rule_journal", rules::JOURNAL)
+}
+
+// The same: whole seasons.
 fn run_exact_seasons(before: Tally) -> Tally {
     before
         .run(b"season_sheets", rules::SHEET)
@@ -253,6 +263,7 @@ fn main() {
     t = run_sheets(t);
     t = run_days(t);
     t = run_printed_seasons(t);
+    t = run_exact_rules(t);
     t = run_exact_seasons(t);
     print(b"all");
     t.print();
