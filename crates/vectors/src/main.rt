@@ -1,4 +1,5 @@
-// Runs the printed tables of the sources through the product and compares each figure at its printed precision.
+// Runs the printed tables of the sources and document 01's rules through the product and compares each figure at its
+// precision.
 //
 // A line of a group's data is a figure: the printed figure, the tolerance (half its last digit, more where the inputs
 // are themselves rounded), the reason why it differs (0: it agrees), the deviation, the inputs; a label behind ';'. The
@@ -62,7 +63,8 @@ impl Tally {
         }
     }
 
-    fn print(self) {
+    fn print(self, what: &[u8]) {
+        print(what);
         print(b": ");
         print_number(self.figures);
         print(b" figures compared, ");
@@ -75,8 +77,7 @@ impl Tally {
     // Runs a group and prints its count; the count of all so far.
     fn run(self, path: &[u8], rule: u32) -> Tally {
         let group = read_group(path, rule);
-        print(path);
-        group.print();
+        group.print(path);
         self.and(group)
     }
 }
@@ -199,7 +200,7 @@ fn read_group(path: &[u8], rule: u32) -> Tally {
     run_text(&data[..n], rule)
 }
 
-// The rules on numbers alone.
+// Printed figures: the rules on numbers alone.
 fn run_rules(before: Tally) -> Tally {
     before
         .run(b"effective_rain", rules::RAIN)
@@ -208,17 +209,11 @@ fn run_rules(before: Tally) -> Tally {
         .run(b"stress", rules::USE)
 }
 
-// What sheets are accepted, and a season's days.
-fn run_sheets(before: Tally) -> Tally {
-    before
-        .run(b"refusals", rules::REFUSAL)
-        .run(b"lengths", rules::LENGTH)
-        .run(b"dates", rules::DATE)
-}
-
-// A day's numbers.
+// Printed figures: a season's days and their numbers.
 fn run_days(before: Tally) -> Tally {
     before
+        .run(b"lengths", rules::LENGTH)
+        .run(b"dates", rules::DATE)
         .run(b"kc", rules::KC)
         .run(b"mean_kc", rules::MEAN_KC)
         .run(b"crop_need", rules::NEED)
@@ -227,13 +222,19 @@ fn run_days(before: Tally) -> Tally {
         .run(b"ready_water", rules::READY)
 }
 
-// Decade tables, intervals between waterings and daily balances as the sources print them.
-fn run_printed_seasons(before: Tally) -> Tally {
+// Printed figures: decade tables and intervals between waterings.
+fn run_seasons(before: Tally) -> Tally {
     before
         .run(b"decade_rows", rules::ROWS)
         .run(b"decade_cells", rules::CELL)
-        .run(b"decade_sums", rules::SUM)
+        .run(b"month_sums", rules::SUM)
         .run(b"intervals", rules::HELD)
+}
+
+// Printed figures whose bounds were set from the deviations seen.
+fn run_bounded(before: Tally) -> Tally {
+    before
+        .run(b"decade_sums", rules::SUM)
         .run(b"daily_balances", rules::BALANCE)
 }
 
@@ -244,10 +245,11 @@ fn run_exact_rules(before: Tally) -> Tally {
         .run(b"rule_ready", rules::READY)
         .run(b"rule_gross", rules::GROSS)
         .run(b"rule_use", rules::USE)
+        .run(b"rule_refusals", rules::REFUSAL)
         .run(b"rule_journal", rules::JOURNAL)
 }
 
-// The same: whole seasons.
+// Document 01's rules by a separate reading of them: whole seasons.
 fn run_exact_seasons(before: Tally) -> Tally {
     before
         .run(b"season_sheets", rules::SHEET)
@@ -259,12 +261,14 @@ fn run_exact_seasons(before: Tally) -> Tally {
 }
 
 fn main() {
-    let mut t = run_rules(tally_of(0, 0, 0));
-    t = run_sheets(t);
-    t = run_days(t);
-    t = run_printed_seasons(t);
-    t = run_exact_rules(t);
-    t = run_exact_seasons(t);
-    print(b"all");
-    t.print();
+    let none = tally_of(0, 0, 0);
+    let printed = run_seasons(run_days(run_rules(none)));
+    printed.print(b"printed, at the printed precision");
+    let bounded = run_bounded(none);
+    bounded.print(b"printed, within bounds set from the deviations seen");
+    let sheets = none.run(b"refusals", rules::REFUSAL);
+    sheets.print(b"printed sheets, accepted or refused by document 01's rules");
+    let exact = run_exact_seasons(run_exact_rules(none));
+    exact.print(b"document 01's rules by a separate reading");
+    printed.and(bounded).and(sheets).and(exact).print(b"all");
 }
