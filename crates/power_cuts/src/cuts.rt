@@ -236,9 +236,9 @@ fn print_cut(cut: Cut) {
     print(b"\n");
 }
 
-// Cuts every call of a history from one on; how many calls were cut, or 0 at the first difference.
-pub fn cut_calls(sheet: &[u8], block: Block, size: isize, history: &[u32], from: usize) -> u64 {
-    let mut i = from;
+// Cuts every call of a history; how many calls were cut, or 0 at the first difference.
+pub fn cut_calls(sheet: &[u8], block: Block, size: isize, history: &[u32]) -> u64 {
+    let mut i: usize = 0;
     let mut count: u64 = 0;
     while i < history.len() {
         if !cut_call(sheet, block, size, history, i) {

@@ -32,7 +32,7 @@ fn cut_small(size: isize, history: &[u32], what: &[u8]) -> bool {
     let sheet =
         b"\x01\x09\x01\x01\x01\x01\x28\x64\x3c\xf4\x03\x00\x00\x00\x00\x00\x00\x00\x00\x00\x00\x00\x00\x00\x00\x00\x00\x00\x00\x00\x00\x00\x00\x00\x64\x14\x14\x32\x4b\x00\x7f";
     report(
-        cuts::cut_calls(sheet, histories::SMALL, size, history, 0),
+        cuts::cut_calls(sheet, histories::SMALL, size, history),
         what,
     )
 }
@@ -52,14 +52,14 @@ fn cut_narrow(size: isize, what: &[u8]) -> bool {
     cut_small(size, &history, what)
 }
 
-// From day 122 to day 131: a close of day 128 or later has three bytes.
+// Days 1 to 131: a close of day 128 or later has three bytes.
 fn cut_long() -> bool {
     let sheet =
         b"\x01\x01\x3c\x3c\x3c\x3c\x64\x64\x64\xac\x02\xac\x02\xac\x02\xac\x02\xac\x02\xac\x02\xac\x02\xac\x02\xac\x02\xac\x02\xac\x02\xac\x02\x00\x00\x00\x00\x00\x00\x00\x00\x00\x00\x00\x00\x64\x14\x14\x32\x4b\x00\x7f";
     let history = histories::long_history();
     report(
-        cuts::cut_calls(sheet, histories::LONG, 512, &history, 126),
-        b"days past the 127th",
+        cuts::cut_calls(sheet, histories::LONG, 512, &history),
+        b"131 days, past the 127th",
     )
 }
 
