@@ -3,4 +3,5 @@ pub mod Year
 pub mod Count
 pub mod Rows
 pub mod Answers
+pub mod Dated
 pub mod Claims
