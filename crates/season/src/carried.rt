@@ -12,6 +12,7 @@ use crate::numbers::quotient;
 use crate::numbers::raised;
 use crate::numbers::reciprocal_of;
 use crate::numbers::saturating_sub;
+use crate::numbers::usual_reciprocal_of;
 ghost use mathlib.Core.Path.{_≡_};
 ghost use Prim.Native.Nat.{_+_, _≤_};
 ghost use Rattle.season.specs.Calendar.{Proper};
@@ -50,8 +51,8 @@ fn on_date(s: Season, number: u32, date: Date, growth: u64) -> SeasonDay
         left: min(length - date.day, slope.left),
         top: eto * slope.top + 50 * slope.bottom,
         rise: eto as i32 * slope.rise,
-        reciprocal: reciprocal_of(100 * slope.bottom),
-        rain_per_day: effective as u64 * reciprocal_of(length),
+        reciprocal: usual_reciprocal_of(100 * slope.bottom),
+        rain_per_day: effective as u64 * usual_reciprocal_of(length),
         growth_per_day: growth,
     }
 }

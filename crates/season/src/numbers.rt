@@ -27,6 +27,24 @@ pub fn reciprocal_of(d: u32) -> u64
     SCALE / d as u64 + 1
 }
 
+// The same. A month of 30 or 31 days, and the 100 of a stage with one coefficient, make most days: their reciprocals are
+// constants, since a division of 64 bits takes longer than all else that makes a day.
+pub fn usual_reciprocal_of(d: u32) -> u64
+    requires { ⌜ 0 < d ⌝ }
+    ensures { λ r. ⌜ r ≡ reciprocal d ⌝ }
+{
+    if d == 31 {
+        return 567489872401;
+    }
+    if d == 30 {
+        return 586406201481;
+    }
+    if d == 100 {
+        return 175921860445;
+    }
+    reciprocal_of(d)
+}
+
 // x / d by the reciprocal of d, and x × y / d by y times it (`by-reciprocal`, proofs/Reciprocal.antt).
 pub fn quotient(x: u32, reciprocal: u64) -> u32
     requires { ⌜ x * reciprocal < 18446744073709551616 ⌝ }

@@ -72,14 +72,14 @@ mul-t23 c =
     let start = at-slope-of .before .before .before .before .before .before in
     rw (at-slope-of .slope-of .ensures) (rise-weighed-fits (start .args .s) (start .args .number) (start .args .date .month) (start .pre .0 .ranges))
 
-mul-reciprocal-of : tie.Need-mul-reciprocal-of
-mul-reciprocal-of c =
+mul-usual-reciprocal-of : tie.Need-mul-usual-reciprocal-of
+mul-usual-reciprocal-of c =
     let at-slope-of = c .before .before .before .before .before .before .before in
     let start = at-slope-of .before .before .before .before .before .before in
     record { fits = rw (at-slope-of .slope-of .ensures) (omega (arith, slope-small (start .args .s) (start .args .number) (start .pre .0 .ranges) .few)) }
 
-reciprocal-of-requires : tie.Need-reciprocal-of-requires
-reciprocal-of-requires c κs =
+usual-reciprocal-of-requires : tie.Need-usual-reciprocal-of-requires
+usual-reciprocal-of-requires c κs =
     let at-slope-of = c .before .before .before .before .before .before .before in
     let start = at-slope-of .before .before .before .before .before .before in
     rw (at-slope-of .slope-of .ensures) (omega (arith, slope-small (start .args .s) (start .args .number) (start .pre .0 .ranges) .some))
@@ -87,8 +87,8 @@ reciprocal-of-requires c κs =
 cast-t26 : tie.Need-cast-t26
 cast-t26 c = search needs
 
-reciprocal-of-requires-2 : tie.Need-reciprocal-of-requires-2
-reciprocal-of-requires-2 c κs =
+usual-reciprocal-of-requires-2 : tie.Need-usual-reciprocal-of-requires-2
+usual-reciprocal-of-requires-2 c κs =
     let at-month-days = c .before .before .before .before .before .before .before .before .before .before .before .before in
     let start = at-month-days .before .before in
     rw (at-month-days .month-days .ensures) (omega (arith, days-low (start .args .date .month) (start .pre .1 .0 .month-low) (start .pre .1 .0 .month-high)))
@@ -98,17 +98,17 @@ mul-t28 c =
     let at-effective-rain = c .before .before .before .before .before .before .before .before .before .before in
     let at-month-days = at-effective-rain .before .before .before in
     let start = at-month-days .before .before in
-    record { fits = rw (at-effective-rain .effective-rain .ensures, c .reciprocal-of2 .ensures, at-month-days .month-days .ensures) (rain-per-day-small _ _ (effective-le _ (start .pre .0 .ranges .rain _)) (days-low (start .args .date .month) (start .pre .1 .0 .month-low) (start .pre .1 .0 .month-high))) }
+    record { fits = rw (at-effective-rain .effective-rain .ensures, c .usual-reciprocal-of2 .ensures, at-month-days .month-days .ensures) (rain-per-day-small _ _ (effective-le _ (start .pre .0 .ranges .rain _)) (days-low (start .args .date .month) (start .pre .1 .0 .month-low) (start .pre .1 .0 .month-high))) }
 
 returns : tie.Need-returns
 returns c =
-    let at-reciprocal-of = c .before in
-    let at-min = at-reciprocal-of .before .before .before .before .before .before in
+    let at-usual-reciprocal-of = c .before in
+    let at-min = at-usual-reciprocal-of .before .before .before .before .before .before in
     let at-slope-of = at-min .before .before in
     let at-effective-rain = at-slope-of .before in
     let at-month-days = at-effective-rain .before .before .before in
     let start = at-month-days .before .before in
-    rw (c .reciprocal-of2 .ensures, at-reciprocal-of .reciprocal-of .ensures, at-min .min .ensures, at-slope-of .slope-of .ensures, at-effective-rain .effective-rain .ensures, at-month-days .month-days .ensures, start .pre .1 .1, rise-weighed-back (start .args .s) (start .args .number) (start .args .date .month) (start .pre .0 .ranges))
+    rw (c .usual-reciprocal-of2 .ensures, at-usual-reciprocal-of .usual-reciprocal-of .ensures, at-min .min .ensures, at-slope-of .slope-of .ensures, at-effective-rain .effective-rain .ensures, at-month-days .month-days .ensures, start .pre .1 .1, rise-weighed-back (start .args .s) (start .args .number) (start .args .date .month) (start .pre .0 .ranges))
 
 pub on-date-spec : {M : Type 1} → statement M
 on-date-spec =
@@ -130,9 +130,9 @@ on-date-spec =
     add-t21
     cast-t22
     mul-t23
-    mul-reciprocal-of
-    reciprocal-of-requires
+    mul-usual-reciprocal-of
+    usual-reciprocal-of-requires
     cast-t26
-    reciprocal-of-requires-2
+    usual-reciprocal-of-requires-2
     mul-t28
     returns)

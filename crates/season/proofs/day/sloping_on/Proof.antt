@@ -6,12 +6,6 @@ use borrow.Author.Needs.{needs}
 use Rattle.season.proofs.day.sloping_on.Statement.{statement}
 use Rattle.season.proofs.day.sloping_on.Tie as tie
 
-cast-rise : tie.Need-cast-rise
-cast-rise c = search needs
-
-cast-rise-2 : tie.Need-cast-rise-2
-cast-rise-2 c = search needs
-
 sub-rise : tie.Need-sub-rise
 sub-rise c = rise-fits (c .args .before) (c .args .after) (c .pre .0) (c .pre .1)
 
@@ -22,9 +16,6 @@ raised-requires : tie.Need-raised-requires
 raised-requires c κs =
     ramp-raising (c .args .before) (c .args .after) (c .pre .0) (c .pre .1) (c .args .days) (c .args .day) (c .pre .2) (c .pre .3)
 
-sub-t10 : tie.Need-sub-t10
-sub-t10 c = search needs
-
 returns : tie.Need-returns
 returns c =
     let start = c .before in
@@ -32,4 +23,4 @@ returns c =
 
 pub sloping-on-spec : {M : Type 1} → statement M
 sloping-on-spec =
-    tie.close (tie.spec cast-rise cast-rise-2 sub-rise mul-raised raised-requires sub-t10 returns)
+    tie.close (tie.spec (search needs) (search needs) sub-rise mul-raised raised-requires (search needs) returns)
