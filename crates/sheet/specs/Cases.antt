@@ -1,4 +1,5 @@
--- Document 01's small sheet, and edges of refusals 1, 2, 3 and 5 that are not in document 01; those of 4, 6 and 7 are run (crates/vectors/data/refusals).
+-- Document 01's small sheet, and edges of refusals 1, 2, 3 and 5 that are not in document 01; those of 4, 6 and 7 are
+-- run (crates/vectors/data/rule_refusals).
 -- Left, what the definitions answer; right, the refusal's number and the number returned with it, or 0 and 0.
 use Prim.Native.Nat.{ℕ}
 use mathlib.Core.List.{List, [], _∷_, _++_}
