@@ -8,6 +8,7 @@
 //!     cargo run --release --manifest-path harness/Cargo.toml [SEED]
 use balladsky as library;
 use harness::memory::{self, Guarded, Side};
+use harness::numbers;
 use harness::plain::book::{self, Book, Call};
 use harness::plain::{self, Opened};
 use harness::random::{self, Dice};
@@ -55,44 +56,15 @@ fn by_library(sheet: &[u8], area: &[u8], ask: Ask, out: &mut [u32; 12], lent: &m
     })
 }
 
-/// An opening's numbers.
-fn opened(o: Opened) -> Vec<u32> {
-    let with = |number, place: usize, l: plain::Ledger| {
-        let depths = [l.day, l.depletion, l.waiting_rain, l.waiting_irrigation, l.rain, l.irrigation, l.used, l.percolation];
-        [&[number, place as u32][..], &depths, &[l.place as u32]].concat()
-    };
-    match o {
-        Opened::Clean(l) => with(0, 0, l),
-        Opened::Torn(l, place) => with(10, place, l),
-        Opened::Refused(number, value) => vec![number, value as u32],
-    }
-}
-
-fn recorded(r: plain::Recorded) -> Vec<u32> {
-    match r.number {
-        0 => [&[0, 0, r.start as u32, r.count as u32][..], &r.bytes.map(u32::from)].concat(),
-        number => vec![number, r.value as u32],
-    }
-}
-
 fn by_plain(sheet: &[u8], area: &[u8], ask: Ask, out: &mut [u32; 12], lent: &mut [u32]) {
     let numbers = match ask {
-        Ask::Open => opened(plain::open(sheet, area)),
-        Ask::Rain(v) => recorded(plain::rain(sheet, area, v)),
-        Ask::Irrigation(v) => recorded(plain::irrigation(sheet, area, v)),
-        Ask::Close => recorded(plain::close(sheet, area)),
-        Ask::Mend => match plain::mend(sheet, area) {
-            m if m.number == 0 => [&[0, 0, m.count as u32][..], &m.places.map(|p| p as u32)].concat(),
-            m => vec![m.number, m.value as u32],
-        },
-        Ask::Plan(_) => match plain::plan(sheet, area, lent) {
-            p if p.number == 0 => vec![0, 0, p.waterings, p.net, p.gross],
-            p => vec![p.number, p.value as u32],
-        },
-        Ask::Table(_) => match plain::table(sheet, lent) {
-            t if t.number == 0 => vec![0, 0, t.rows as u32],
-            t => vec![t.number, t.value as u32],
-        },
+        Ask::Open => numbers::opened(plain::open(sheet, area)),
+        Ask::Rain(v) => numbers::recorded(plain::rain(sheet, area, v)),
+        Ask::Irrigation(v) => numbers::recorded(plain::irrigation(sheet, area, v)),
+        Ask::Close => numbers::recorded(plain::close(sheet, area)),
+        Ask::Mend => numbers::mended(plain::mend(sheet, area)),
+        Ask::Plan(_) => numbers::planned(plain::plan(sheet, area, lent)),
+        Ask::Table(_) => numbers::tabled(plain::table(sheet, lent)),
     };
     out[..numbers.len()].copy_from_slice(&numbers);
 }
@@ -293,7 +265,7 @@ fn histories(t: &mut Tally, g: &mut Dice) -> (u64, u64) {
                 after.call(call, done);
                 torn += matches!(after.open(), Opened::Torn(..)) as u64;
                 let found = t.same(g, &sheet, &cut, Ask::Open);
-                let want = opened(after.open());
+                let want = numbers::opened(after.open());
                 if found[..want.len()] != want[..] {
                     println!("the book opens as {want:?}");
                     differ("the book", &sheet, &cut, Ask::Open, &(found, Vec::new()), &([0; 12], Vec::new()));

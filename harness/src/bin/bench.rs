@@ -1,10 +1,12 @@
-//! Measures the library and the plain implementation side by side in one run: medians of 401 rounds, each a batch of about 20 µs of the one,
-//! then of the other, and the ratio of the medians. Every answer is compared first.
+//! Measures the library and the plain implementation side by side in one run: medians of 401 rounds, each a batch of
+//! about 20 µs of the one, then of the other, and the ratio of the medians. Every number of every answer is compared
+//! first. Journals of mixed lengths and usual seasons are 32 each, taken in turn.
 //!
 //!     cargo run --release --manifest-path harness/Cargo.toml --bin bench
 use balladsky as library;
 use harness::plain::book::{bytes, Entry};
-use harness::plain::{self, Opened};
+use harness::random::Dice;
+use harness::{numbers, plain};
 use std::hint::black_box;
 use std::time::Instant;
 
@@ -71,37 +73,88 @@ fn closed_days(days: u32) -> Vec<u8> {
     area((1..=days).map(Entry::Close), 0)
 }
 
-fn open_line<'a>(name: &str, sheet: &'a [u8], area: &'a [u8]) -> Line<'a> {
-    let mut out = [0; 12];
-    library::open(sheet, area, &mut out);
-    let Opened::Clean(l) = plain::open(sheet, area) else { panic!("{name}: {:?}", plain::open(sheet, area)) };
-    assert_eq!((out[0], out[2], out[10]), (0, l.day, l.place as u32), "{name}");
+/// Seven entries a day of two, three and four bytes, in no order.
+fn mixed(journal: u64, left: usize) -> Vec<u8> {
+    let mut g = Dice(journal);
+    let mut entries = Vec::new();
+    for day in 1..=365 {
+        for _ in 0..7 {
+            let (least, most) = g.pick(&[(1, 127), (128, 16_383), (16_384, 30_000)]);
+            entries.push(water(g.of(0, 1), g.of(least, most)));
+        }
+        entries.push(Entry::Close(day));
+    }
+    area(entries, left)
+}
+
+/// A usual season: one day in three has water, half a millimetre to sixty, and every day is closed.
+fn usual(journal: u64, days: u32) -> Vec<u8> {
+    let mut g = Dice(journal);
+    let mut entries = Vec::new();
+    for day in 1..=days {
+        if g.one_in(3) {
+            entries.push(water(g.of(0, 1), g.of(50, 6_000)));
+        }
+        entries.push(Entry::Close(day));
+    }
+    area(entries, 0)
+}
+
+/// Thirty-two journals of a kind.
+fn journals(make: impl Fn(u64) -> Vec<u8>) -> Vec<Vec<u8>> {
+    (1..=32).map(make).collect()
+}
+
+/// The whole of `out` is the plain answer's numbers, and what it held beyond them.
+fn same(name: &str, out: &[u32; 12], want: &[u32]) {
+    assert_eq!((&out[..want.len()], &out[want.len()..]), (want, &[NOISE; 12][want.len()..]), "{name}");
+    assert_eq!(out[0], 0, "{name}");
+}
+
+const NOISE: u32 = 0x5eed;
+
+/// Calls on journals in turn: with many of them a branch can't be foretold from the round before.
+fn in_turn<'a>(areas: &'a [Vec<u8>], mut call: impl FnMut(&[u8]) + 'a) -> impl FnMut() + 'a {
+    let mut next = 0;
+    move || {
+        call(black_box(&areas[next]));
+        next = if next + 1 < areas.len() { next + 1 } else { 0 };
+    }
+}
+
+fn open_line<'a>(name: &str, sheet: &'a [u8], areas: &'a [Vec<u8>]) -> Line<'a> {
+    let mut out = [NOISE; 12];
+    for area in areas {
+        out = [NOISE; 12];
+        library::open(sheet, area, &mut out);
+        same(name, &out, &numbers::opened(plain::open(sheet, area)));
+    }
     line(
         format!("open: {name}"),
-        move || library::open(black_box(sheet), black_box(area), black_box(&mut out)),
-        move || { black_box(plain::open(black_box(sheet), black_box(area))); },
+        in_turn(areas, move |area| library::open(black_box(sheet), area, black_box(&mut out))),
+        in_turn(areas, move |area| { black_box(plain::open(black_box(sheet), area)); }),
     )
 }
 
-fn rain_line<'a>(name: &str, sheet: &'a [u8], area: &'a [u8]) -> Line<'a> {
-    let mut out = [0; 12];
-    library::rain(sheet, area, 20, &mut out);
-    let r = plain::rain(sheet, area, 20);
-    assert_eq!((out[0], out[2], out[3]), (r.number, r.start as u32, r.count as u32), "{name}");
-    assert_eq!(out[0], 0, "{name}");
+fn rain_line<'a>(name: &str, sheet: &'a [u8], areas: &'a [Vec<u8>]) -> Line<'a> {
+    let mut out = [NOISE; 12];
+    for area in areas {
+        out = [NOISE; 12];
+        library::rain(sheet, area, 20, &mut out);
+        same(name, &out, &numbers::recorded(plain::rain(sheet, area, 20)));
+    }
     line(
         format!("rain on: {name}"),
-        move || library::rain(black_box(sheet), black_box(area), black_box(20), black_box(&mut out)),
-        move || { black_box(plain::rain(black_box(sheet), black_box(area), black_box(20))); },
+        in_turn(areas, move |area| library::rain(black_box(sheet), area, black_box(20), black_box(&mut out))),
+        in_turn(areas, move |area| { black_box(plain::rain(black_box(sheet), area, black_box(20))); }),
     )
 }
 
 fn plan_line<'a>(name: &str, sheet: &'a [u8], area: &'a [u8]) -> Line<'a> {
-    let (mut out, mut ours, mut theirs) = ([0; 12], [0; 365], [0; 365]);
+    let (mut out, mut ours, mut theirs) = ([NOISE; 12], [0; 365], [0; 365]);
     library::plan(sheet, area, &mut ours, &mut out);
-    let p = plain::plan(sheet, area, &mut theirs);
-    assert_eq!((out[0], out[2], out[3], out[4]), (p.number, p.waterings, p.net, p.gross), "{name}");
-    assert!(out[0] == 0 && ours == theirs, "{name}");
+    same(name, &out, &numbers::planned(plain::plan(sheet, area, &mut theirs)));
+    assert_eq!(ours, theirs, "{name}");
     line(
         format!("plan: 365 days, {name}, {} waterings", out[2]),
         move || library::plan(black_box(sheet), black_box(area), black_box(&mut ours), black_box(&mut out)),
@@ -110,12 +163,12 @@ fn plan_line<'a>(name: &str, sheet: &'a [u8], area: &'a [u8]) -> Line<'a> {
 }
 
 fn table_line(sheet: &[u8]) -> Line<'_> {
-    let (mut out, mut ours, mut theirs) = ([0; 12], [0; 222], [0; 222]);
+    let (mut out, mut ours, mut theirs) = ([NOISE; 12], [0; 222], [0; 222]);
     library::table(sheet, &mut ours, &mut out);
-    let t = plain::table(sheet, &mut theirs);
-    assert!((out[0], out[2]) == (0, t.rows as u32) && ours == theirs, "table");
+    same("table", &out, &numbers::tabled(plain::table(sheet, &mut theirs)));
+    assert_eq!(ours, theirs, "table");
     line(
-        format!("table: 365 days, {} rows", t.rows),
+        format!("table: 365 days, {} rows", out[2]),
         move || library::table(black_box(sheet), black_box(&mut ours), black_box(&mut out)),
         move || { black_box(plain::table(black_box(sheet), black_box(&mut theirs))); },
     )
@@ -125,20 +178,27 @@ fn main() {
     let sheet = season(300, 2_000, 140, (30, 150), 50);
     let few = season(300, 2_000, 400, (200, 300), 60);
     let many = season(500, 100, 100, (15, 20), 60);
-    let (two, four, closed, blank) = (two_byte(0), four_byte(0), closed_days(365), vec![0xff; 8_192]);
-    let (two_left, four_left, closed_left) = (two_byte(8), four_byte(8), closed_days(364));
+    let (two, four, closed, blank) = ([two_byte(0)], [four_byte(0)], [closed_days(365)], [vec![0xff; 8_192]]);
+    let (two_left, four_left, closed_left) = ([two_byte(8)], [four_byte(8)], [closed_days(364)]);
+    let (uneven, season) = (journals(|j| mixed(j, 0)), journals(|j| usual(j, 365)));
+    let (uneven_left, season_left) = (journals(|j| mixed(j, 8)), journals(|j| usual(j, 364)));
+    let empty = [Vec::new()];
     let mut lines = vec![
         open_line("8,192 bytes of four-byte entries", &sheet, &four),
         open_line("8,192 bytes of two-byte entries", &sheet, &two),
+        open_line("8,192 bytes of mixed lengths", &sheet, &uneven),
         open_line("8,192 bytes, 365 closed days", &sheet, &closed),
+        open_line("8,192 bytes, a usual season", &sheet, &season),
         open_line("8,192 bytes, blank", &sheet, &blank),
         rain_line("four-byte entries", &sheet, &four_left),
         rain_line("two-byte entries", &sheet, &two_left),
+        rain_line("mixed lengths", &sheet, &uneven_left),
         rain_line("364 closed days", &sheet, &closed_left),
-        plan_line("few", &few, &blank[..64]),
-        plan_line("many", &many, &blank[..64]),
+        rain_line("a usual season", &sheet, &season_left),
+        plan_line("few", &few, &blank[0][..64]),
+        plan_line("many", &many, &blank[0][..64]),
         table_line(&sheet),
-        open_line("no area (reads the sheet)", &sheet, &[]),
+        open_line("no area (reads the sheet)", &sheet, &empty),
     ];
     for l in &mut lines {
         let each = (0..300).map(|_| timed(&mut l.ours, 1)).fold(f64::MAX, f64::min).max(1.0);
