@@ -28,7 +28,7 @@ pub fn reciprocal_of(d: u32) -> u64
 }
 
 // The same. A month of 30 or 31 days, and the 100 of a stage with one coefficient, make most days: their reciprocals are
-// constants, since a division of 64 bits takes longer than all else that makes a day.
+// constants, since a division of 64 bits is slow on many processors.
 pub fn usual_reciprocal_of(d: u32) -> u64
     requires { ⌜ 0 < d ⌝ }
     ensures { λ r. ⌜ r ≡ reciprocal d ⌝ }
