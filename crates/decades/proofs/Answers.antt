@@ -37,11 +37,11 @@ refused-unaltered s out number value = go (ltb (length out) (rowCount s * 6))
     go true e = refl
     go false e = absurd (rows-refused (rowCount s) number value e)
 
-pub tabled-rows-at-most : (s : Season) (out : List ℕ) (k : ℕ) → Valid s → tabled s out .0 ≡ Rows k → k ≤ 37
+pub tabled-rows-at-most : (s : Season) (out : List ℕ) (k : ℕ) → Valid s → tabled s out .0 ≡ Rows k → k ≤ 29
 unfolding tabled
 tabled-rows-at-most s out k v = go (ltb (length out) (rowCount s * 6))
   where
-    go : (b : Bool) → byTest s out b .0 ≡ Rows k → k ≤ 37
+    go : (b : Bool) → byTest s out b .0 ≡ Rows k → k ≤ 29
     go true e = absurd (rows-refused k 15 0 (sym e))
     go false e = let n : rowCount s ≡ k = cc in omega (arith, rows-at-most s v)
 

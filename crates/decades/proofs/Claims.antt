@@ -1,17 +1,53 @@
 -- The proofs of `specs/Claims.antt`, in its order.
-use mathlib.Core.Path.{_≡_, refl, _∙_, ap₂}
-use mathlib.Core.List.{List, _∷_, map}
+use mathlib.Core.Path.{_≡_, refl, sym, ap₂}
+use mathlib.Core.List.{List, [], _∷_, map}
 use Prim.Native.Nat.{ℕ}
+use native.Mathlib.Omega.{arith}
+use lib.ListN.{replicate}
+use Rattle.season.specs.Sheet.{Valid}
 use Rattle.season.specs.Calendar.{nextDay, daysOn}
 use Rattle.season.specs.Rules.{ramp, rampZ}
 use Rattle.season.specs.Day.{dateOf, kcOf, cropNeed, rainOn}
+use Rattle.season.specs.Carried.{dayOf}
 use Rattle.season.specs.SmallSheet.{small}
-use Rattle.decades.specs.Table.{dayRow, withDay, rowsTo, six, flat, tabled}
-use Rattle.decades.specs.Cases.{buffers, edges}
+use Rattle.season.proofs.Each.{all-le}
+use Rattle.decades.specs.Table.{dayRow, withDay, rowsTo, rowCount, six, flat, tabled}
+use Rattle.decades.specs.Cases.{onion, buffers, edges}
 use Rattle.decades.specs.Claims.{Claims}
-use Rattle.decades.proofs.Count.{rows-at-most}
+use Rattle.decades.proofs.Count.{rows-at-most, count-within}
 use Rattle.decades.proofs.Answers.{refused-unaltered, numbers-one-to-one}
-use Rattle.decades.proofs.Dated.{year-dated, year-computed}
+
+onion-valid : Valid onion
+unfolding onion
+onion-valid = record {
+  ranges = record {
+    month = omega arith;
+    first = omega arith;
+    initial = omega arith;
+    development = omega arith;
+    middle = omega arith;
+    late = omega arith;
+    kcini = omega arith;
+    kcmid = omega arith;
+    kcend = omega arith;
+    eto = all-le 1500 (500 ∷ replicate 11 0) tt;
+    rain = all-le 60000 (replicate 12 0) tt;
+    water = omega arith;
+    sowing = omega arith;
+    full = omega arith;
+    fraction = omega arith;
+    efficiency = omega arith;
+    opening = omega arith;
+    turns = omega arith;
+  };
+  year = omega arith;
+  roots = omega arith;
+}
+
+-- Its rows, by the dates of its first and last day.
+onion-rows : rowCount onion ≡ 29
+unfolding onion dayOf dateOf daysOn nextDay
+onion-rows = sym (count-within onion onion-valid (dayOf onion 275) refl (omega arith))
 
 abbrev lefts : List (List ℕ × List ℕ) → List (List ℕ)
 lefts = map (λ (c : List ℕ × List ℕ). c .0)
@@ -25,11 +61,12 @@ buffers-hold = refl
 
 edges-hold : lefts edges ≡ rights edges
 unfolding edges
-edges-hold = ap₂ _∷_ (year-dated ∙ year-computed) buffers-hold
+edges-hold = ap₂ (λ (n : ℕ) (rest : List (List ℕ)). (n ∷ []) ∷ rest) onion-rows buffers-hold
 
 pub claims : Claims
 claims = record {
   rows-at-most = rows-at-most;
+  onion-valid = onion-valid;
   refused-unaltered = refused-unaltered;
   numbers-one-to-one = numbers-one-to-one;
   edges-hold = edges-hold;

@@ -1,5 +1,4 @@
--- How many rows a season's table has: the decades of the year that its days reach. A year has 36 decades, and 365 days reach each once, but
--- for the first, in which they may end.
+-- How many rows a season's table has: the decades of the year that its days reach, 36 a year. A decade has ten days, give or take.
 use mathlib.Core.Path.{_≡_, refl, sym, _∙_, ap}
 use mathlib.Core.Bool.{Bool, true, false}
 use mathlib.Core.List.{List, [], _∷_}
@@ -15,13 +14,12 @@ use Rattle.season.specs.Sheet.{Valid, seasonDays}
 use Rattle.season.specs.Calendar.{dateIs, daysOn, Proper}
 use Rattle.season.specs.Day.{dateOf}
 use Rattle.season.specs.Carried.{dayOf}
-use Rattle.season.proofs.Whole.{by-order}
 use Rattle.season.proofs.Calendar.{days-high}
 use Rattle.season.proofs.Bounds.{date-proper}
 use Rattle.season.proofs.Days.{date-next}
 use Rattle.decades.specs.declared.Row.{Row}
 use Rattle.decades.specs.Table.{decadeOf, dayRow, sameDecade, withDay, rowsTo, rowCount}
-use Rattle.decades.proofs.Year.{yearDay, yearDecade, decade-within, year-order, year-before, year-after, year-within, both-same, sameDates, fresh, Next, next}
+use Rattle.decades.proofs.Year.{yearDay, yearDecade, decade-within, year-order, year-before, year-after, year-within, year-slope, both-same, sameDates, fresh, Next, next}
 
 -- The latest row is of a day's decade.
 abbrev Heads : Date → List Row → Type 0
@@ -64,22 +62,16 @@ along s v (suc j) =
       | inr x ↦ record { heads = w .0; year = omega (arith, a .year, x .0, x .1); rows = omega (arith, a .year, a .rows, x .0, x .1, x .2, w .1) }
     ]
 
--- Document 01: at most 37 rows.
-pub rows-at-most : (s : Season) → Valid s → rowCount s ≤ 37
+-- The longest season reaches at most 29.
+pub rows-at-most : (s : Season) → Valid s → rowCount s ≤ 29
 rows-at-most s v =
     let n = seasonDays s in
     let j = n - 1 in
     let e : n ≡ suc j = omega (arith, v .ranges .initial .low≤) in
     let a = along s v j in
-    let p = date-proper s 1 v in
-    let q = date-proper s (suc j) v in
-    let first = decade-within (dateOf s 1 .day) in
-    let last = decade-within (dateOf s (suc j) .day) in
-    let y = year-within (dateOf s 1) p in
-    rw e
-    (by-order (yearDay (dateOf s 1) + j) 365
-    (λ h. omega (arith, a .rows, a .year, v .year, year-order (dateOf s (suc j)) (dateOf s 1) q p (omega (arith, a .year, v .year))))
-    (λ h. omega (arith, a .rows, p .month-low, q .month-high)))
+    let first = year-slope (dateOf s 1) (date-proper s 1 v) in
+    let last = year-slope (dateOf s (suc j)) (date-proper s (suc j) v) in
+    rw e (omega (arith, a .rows, a .year, v .year, first, last))
 
 -- The count from the first and the last day's dates.
 module _ (s : Season) (v : Valid s) (t : SeasonDay) (is : t ≡ dayOf s (seasonDays s)) where

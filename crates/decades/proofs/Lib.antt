@@ -3,5 +3,4 @@ pub mod Year
 pub mod Count
 pub mod Rows
 pub mod Answers
-pub mod Dated
 pub mod Claims

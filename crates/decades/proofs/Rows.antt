@@ -13,7 +13,7 @@ use borrow.Author.Tests.{lt-ltb, le-ltb}
 use Rattle.season.specs.declared.Season.{Season}
 use Rattle.season.specs.declared.SeasonDay.{SeasonDay}
 use Rattle.season.specs.Calendar.{monthAfter}
-use Rattle.season.specs.Sheet.{Valid, DayOf, seasonDays}
+use Rattle.season.specs.Sheet.{Valid, DayOf, seasonDays, longestSeason}
 use Rattle.season.specs.Rules.{rainTo}
 use Rattle.season.specs.Day.{cropNeed, rainOn}
 use Rattle.season.specs.Carried.{needsAfter, dayOf, OnDay}
@@ -148,14 +148,14 @@ module _ {s : Season} {n at need before : ℕ} {t : SeasonDay} (w : Rows s n t a
   pub next-on : {u : SeasonDay} → t .number < n → u ≡ dayOf s (t .number + 1) → OnDay s u
   next-on {u} h e = on-day s u (t .number + 1) (record { from = omega arith; to = omega (arith, w .season) }) e
 
-  pub rows-many : (length (rowsTo s (t .number)) * 6 ≡ at + 6) × (at + 6 ≤ rowCount s * 6) × (at + 6 ≤ 222)
+  pub rows-many : (length (rowsTo s (t .number)) * 6 ≡ at + 6) × (at + 6 ≤ rowCount s * 6) × (at + 6 ≤ 174)
   rows-many =
       let c = ap length (w .is) in
       let m = rows-more s (t .number) (seasonDays s) (w .on .of .to) in
       let r = rows-at-most s (w .valid) in
       (omega (arith, w .count, c), omega (arith, w .count, c, m), omega (arith, w .count, c, m, r))
 
-  pub need-small : need ≤ 1095000
+  pub need-small : need ≤ 3000 * longestSeason
   need-small = omega (arith, w .small, w .on .of .to, w .valid .year)
 
   module _ {more : ℕ} {u : SeasonDay} (h : t .number < n) (e : u ≡ dayOf s (t .number + 1)) (m : more ≡ cropNeed s (u .number)) where

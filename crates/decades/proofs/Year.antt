@@ -184,3 +184,20 @@ year-after a b p q h =
     let o : offset (a .month) ≡ offset (b .month) = ap offset m in
     omega arith)
     (λ l. omega (arith, year-before a b p q l))
+
+-- A decade has ten days, give or take: the day of the year by the decades before it.
+month-slope : (k : ℕ) → k < 12 → (30 * k ≤ getD starts k 0 + 1) × (getD starts k 0 ≤ 30 * k + 4)
+month-slope k h = (
+  leb→le (30 * k) (getD starts k 0 + 1) (below (λ j. leb (30 * j) (getD starts j 0 + 1)) 12 tt k h),
+  leb→le (getD starts k 0) (30 * k + 4) (below (λ j. leb (getD starts j 0) (30 * j + 4)) 12 tt k h),
+)
+
+pub year-slope : (t : Date) → Proper t → (10 * yearDecade t ≤ yearDay t + 41) × (yearDay t + 40 ≤ 10 * yearDecade t + 14)
+year-slope t p =
+    let m = month-slope (t .month - 1) (omega (arith, p .month-low, p .month-high)) in
+    let high = days-high (t .month) (p .month-low) (p .month-high) in
+    by-order 10 (t .day)
+    (λ h. omega (arith, first-decade (t .day) h, p .month-low, p .day-low))
+    (λ h. by-order 20 (t .day)
+    (λ l. omega (arith, second-decade (t .day) h l, p .month-low))
+    (λ l. omega (arith, third-decade (t .day) l, p .month-low, p .day-high)))

@@ -1,45 +1,40 @@
--- Edges that are not in document 01: a season that comes round to its first decade, and the lent buffer, on the small
--- sheet's two rows. Left, what the definitions answer; right, what the rules give.
+-- Edges that are not in document 01: a season with as many rows as any has, and the lent buffer, on the small sheet's
+-- two rows. Left, what the definitions answer; right, what the rules give.
 use mathlib.Core.List.{List, [], _∷_, _++_}
 use Prim.Native.Nat.{ℕ}
-use lib.ListN.{replicate, take, drop}
+use lib.ListN.{replicate}
 use Rattle.season.specs.declared.Season.{Season}
 use Rattle.season.specs.SmallSheet.{small}
-use Rattle.decades.specs.Table.{numbersOf, tabled}
+use Rattle.decades.specs.Table.{numbersOf, rowCount, tabled}
 use Rattle.decades.specs.declared.Tabled.{Tabled}
 
--- A season of 365 days, from 2 January to 1 January. January has ETo 500 and rain 101, which is effective rain 100; the
--- other months have 0. Kc is 40 on the first 91 days and 60 on the last.
-unfoldable pub fullYear : Season
-fullYear =
+-- The seed onion of FAO's stage table, 275 days, from 20 February to 21 November: each end is the edge of a decade.
+unfoldable pub onion : Season
+onion =
     record {
-      month = 1;
-      first = 2;
-      initial = 91;
-      development = 91;
-      middle = 91;
-      late = 92;
-      kcini = 40;
-      kcmid = 100;
-      kcend = 60;
+      month = 2;
+      first = 20;
+      initial = 20;
+      development = 45;
+      middle = 165;
+      late = 45;
+      kcini = 70;
+      kcmid = 105;
+      kcend = 80;
       eto = 500 ∷ replicate 11 0;
-      rain = 101 ∷ replicate 11 0;
-      water = 100;
-      sowing = 20;
-      full = 20;
-      fraction = 50;
+      rain = replicate 12 0;
+      water = 140;
+      sowing = 30;
+      full = 60;
+      fraction = 35;
       efficiency = 75;
       opening = 0;
       turns = 127;
     }
 
 -- An answer's numbers, and then the lent buffer.
-abbrev pub shown : Tabled × List ℕ → List ℕ
+abbrev shown : Tabled × List ℕ → List ℕ
 shown a = numbersOf (a .0) ++ a .1
-
--- Of 37 rows in a buffer of as many numbers as they need: 0, 0 and the row count, the first row and the last.
-abbrev pub ends : List ℕ → List ℕ
-ends xs = take 9 xs ++ drop 219 xs
 
 -- The lent buffer.
 unfoldable pub buffers : List (List ℕ × List ℕ)
@@ -53,6 +48,6 @@ buffers =
 
 unfoldable pub edges : List (List ℕ × List ℕ)
 edges =
-    -- 2 to 10 January are the first row; 1 January, a year later, has a row of its own
-    (ends (shown (tabled fullYear (replicate 222 7))), 0 ∷ 0 ∷ 37 ∷ 1 ∷ 1 ∷ 1800 ∷ 29 ∷ 1771 ∷ 2362 ∷ 1 ∷ 1 ∷ 300 ∷ 3 ∷ 297 ∷ 396 ∷ [])
+    -- the most rows
+    (rowCount onion ∷ [], 29 ∷ [])
     ∷ buffers

@@ -7,11 +7,13 @@ use Rattle.season.specs.Sheet.{Valid}
 use Rattle.decades.specs.declared.Tabled.{Tabled}
 use Rattle.decades.specs.declared.Tabled.the-variants.{Refused}
 use Rattle.decades.specs.Table.{rowCount, tabled, numbersOf}
-use Rattle.decades.specs.Cases.{edges}
+use Rattle.decades.specs.Cases.{onion, edges}
 
 pub record Claims : Type 0 where
-  -- A table has at most 37 rows.
-  pub rows-at-most : (s : Season) → Valid s → rowCount s ≤ 37
+  -- A table has at most 29 rows, in place of document 01's 37 (request T-01).
+  pub rows-at-most : (s : Season) → Valid s → rowCount s ≤ 29
+  -- A valid season has as many: the seed onion of the edges.
+  pub onion-valid : Valid onion
   -- A refused call leaves the buffer as it was.
   pub refused-unaltered : (s : Season) (out : List ℕ) (number value : ℕ) → tabled s out .0 ≡ Refused number value → tabled s out .1 ≡ out
   -- Different answers have different numbers.

@@ -15,6 +15,12 @@ ghost use Rattle.season.specs.Carried.{OnDay};
 ghost use Rattle.decades.specs.Table.{decadeOf, sameDecade, six, rowCount, table, tabled};
 ghost use Rattle.decades.specs.OpenRow.{rowOf, decadeEnd, daysAlike};
 
+// The rows of the longest table.
+pub const MOST_ROWS: u32 = 29;
+
+// Its numbers: a buffer of so many has room for every table.
+pub const MOST_NUMBERS: usize = 6 * MOST_ROWS as usize;
+
 // How many rows the table has, or a refusal: its number, and the number returned with it.
 pub enum Tabled {
     Rows(usize),
@@ -71,8 +77,8 @@ fn date_number(month: u32, day: u32) -> u32
     32 * month + day
 }
 
-// How many rows the table has: one for each decade from the first day's to the last day's. A year has 36, and a season of at most
-// 365 days goes over the year's end where its last day comes before its first in the year.
+// How many rows the table has: one for each decade from the first day's to the last day's. A year has 36, and a season, shorter than a
+// year, goes over the year's end where its last day comes before its first in the year.
 fn row_count(s: Season) -> usize
     requires { ⌜ Valid s ⌝ }
     ensures { λ r. ⌜ r ≡ rowCount s ⌝ }

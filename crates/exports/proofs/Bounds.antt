@@ -14,7 +14,7 @@ use Rattle.verdict.specs.declared.Verdict.the-variants.{Accepted, Refused}
 use Rattle.verdict.proofs.First.{Refusal, first-refusal}
 use Rattle.sheet.proofs.Numbered.{refused-is}
 use Rattle.sheet.specs.Sheets.{sheetOf}
-use Rattle.season.specs.Sheet.{seasonDays}
+use Rattle.season.specs.Sheet.{seasonDays, longestSeason}
 use Rattle.journal.specs.declared.Entry.{Entry}
 use Rattle.journal.specs.declared.Ledger.{Ledger}
 use Rattle.journal.specs.declared.Stores.{Stores}
@@ -173,7 +173,7 @@ module _ (s : Season) (sown : AcceptedSeason s) (out : List ℕ) where
 
       go : (b : Bool) → SmallPlanned (elim b as (λ x. Planned × List ℕ) [ true ↦ (planned.Refused 15 0, out) | false ↦ answerTo (s .efficiency) out p ] .0)
       go true = omega arith
-      go false = to-small (s .efficiency) 365 p (omega arith) (λ f e. omega (arith, plans.claims .refused-first _ _ _ _ f e .0 .to, sown .valid .year))
+      go false = to-small (s .efficiency) longestSeason p (omega arith) (λ f e. omega (arith, plans.claims .refused-first _ _ _ _ f e .0 .to, sown .valid .year))
 
   ledger-small : (l : Ledger) → SmallPlanned (plannedOn s out (found.Clean l) .0)
   unfolding plannedOn

@@ -1,13 +1,13 @@
 -- From the depths drawn to the answer: their numbers fit, and the answer is that of specs/Answer.antt.
 use mathlib.Core.Path.{_≡_, sym, _∙_, ap}
 use mathlib.Core.List.{List, _++_}
-use Prim.Native.Nat.{ℕ, _≤_, _<_}
+use Prim.Native.Nat.{ℕ, _+_, _*_, _≤_, _<_}
 use native.Mathlib.Omega.{arith}
-use lib.ListN.{length, take, drop, replicate}
+use lib.ListN.{length, take, drop, replicate, length-replicate}
 use lib.Seq.{length-take-le}
 use borrow.Author.Tests.{lt-ltb, le-ltb}
 use Rattle.season.specs.declared.Season.{Season}
-use Rattle.season.specs.Sheet.{Valid, DayOf}
+use Rattle.season.specs.Sheet.{Valid, DayOf, longestSeason}
 use Rattle.season.specs.declared.Net.{Net}
 use Rattle.season.specs.declared.Gross.{Gross}
 use Rattle.planner.specs.declared.Drawn.{Drawn}
@@ -27,8 +27,8 @@ pub record Finished (s : Season) (today waiting D : ℕ) (l : List ℕ) : Type 0
   pub valid : Valid s
   pub is : plan (outlook s today waiting) (daysLeft s today) today D ≡ depths l
   pub size : length l ≡ daysLeft s today
-  pub short : length l ≤ 365
-  pub small : sum l ≤ 1215000
+  pub short : length l ≤ longestSeason
+  pub small : sum l ≤ 120000 + 3000 * longestSeason
 
 pub finished : {s : Season} {today D : ℕ} {r : Drawn} {l : List ℕ} (waiting : ℕ) → Valid s → DayOf s today → D ≤ 120000
     → settles r l ≡ plan (outlook s today waiting) (daysLeft s today) today D → r ≡ Whole → Finished s today waiting D l
@@ -65,8 +65,8 @@ module _ (s : Season) (today waiting D : ℕ) (l : List ℕ) where
   answer-enough {x} h e = rw (le-ltb (length l) (daysLeft s today) h, answer) e
 
 -- the local array's first k numbers
-pub draft-length : (k : ℕ) → k ≤ 365 → k ≡ length (take k (replicate {A = ℕ} 365 0))
-draft-length k h = sym (length-take-le k (replicate {A = ℕ} 365 0) h)
+pub draft-length : (n k : ℕ) → k ≤ n → k ≡ length (take k (replicate {A = ℕ} n 0))
+draft-length n k h = sym (length-take-le k (replicate {A = ℕ} n 0) (rw (length-replicate {A = ℕ} n 0) h))
 
-pub draft-zeros : (k m : ℕ) → k ≡ m → k ≤ 365 → take k (replicate {A = ℕ} 365 0) ≡ replicate m 0
-draft-zeros k m e h = take-zeros k 365 h ∙ ap (λ n. replicate {A = ℕ} n 0) e
+pub draft-zeros : (n k m : ℕ) → k ≡ m → k ≤ n → take k (replicate {A = ℕ} n 0) ≡ replicate m 0
+draft-zeros n k m e h = take-zeros k n h ∙ ap (λ i. replicate {A = ℕ} i 0) e

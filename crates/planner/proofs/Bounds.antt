@@ -6,7 +6,7 @@ use native.Mathlib.Nat.{mul-comm}
 use native.Mathlib.Omega.{arith}
 use lib.ListN.{length}
 use Rattle.season.specs.declared.Season.{Season}
-use Rattle.season.specs.Sheet.{Valid}
+use Rattle.season.specs.Sheet.{Valid, longestSeason}
 use Rattle.season.specs.Day.{totalOn, readyOn}
 use Rattle.season.proofs.Laws.{part-le}
 use Rattle.season.proofs.Bounds.{total-le, need-le}
@@ -38,7 +38,7 @@ pub plan-made : (o : Outlook) (k d D : ℕ) (xs : List ℕ) → plan o k d D ≡
 plan-made o k d D xs e = rw e at (walks-right o k d D)
 
 -- the net total of a season's plan
-pub net-at-most : (s : Season) (today waiting D : ℕ) (xs : List ℕ) → Valid s → 1 ≤ today → Best (outlook s today waiting) (daysLeft s today) today D xs → sum xs ≤ D + 1095000
+pub net-at-most : (s : Season) (today waiting D : ℕ) (xs : List ℕ) → Valid s → 1 ≤ today → Best (outlook s today waiting) (daysLeft s today) today D xs → sum xs ≤ D + 3000 * longestSeason
 net-at-most s today waiting D xs v l b =
     let n = b .size in
     omega (

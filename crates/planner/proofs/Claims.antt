@@ -11,7 +11,7 @@ use lib.ListN.{length, take, drop}
 use lib.Seq.{take-at, drop-at}
 use borrow.Author.Tests.{ltb-true, lt-ltb, le-ltb}
 use Rattle.season.specs.declared.Season.{Season}
-use Rattle.season.specs.Sheet.{Valid, DayOf}
+use Rattle.season.specs.Sheet.{Valid, DayOf, longestSeason}
 use Rattle.season.specs.declared.Net.{Net}
 use Rattle.season.specs.declared.Gross.{Gross}
 use Rattle.planner.specs.declared.Planned.{Planned}
@@ -138,11 +138,11 @@ module _ (s : Season) (today D waiting : ℕ) (l : List ℕ) where
       go (Refused number f) m h = elim (h .1) [ inl p ↦ inl (p .0) | inr p ↦ inr (p .0) ]
 
   totals-fit : (days : ℕ) (net : Net) (gross : Gross) (m : List ℕ) → Valid s → DayOf s today → D ≤ 120000
-      → answer s today D waiting l ≡ (Made days net gross, m) → (net .0 ≤ 1215000) × (gross .0 ≤ 121500000)
+      → answer s today D waiting l ≡ (Made days net gross, m) → (net .0 ≤ 120000 + 3000 * longestSeason) × (gross .0 ≤ 100 * (120000 + 3000 * longestSeason))
   totals-fit days net gross m v d h e =
       let r = answer-made-right days net gross m e in
-      let n : net .0 ≤ 1215000 = rw (r .net-total) (omega (arith, net-at-most s today waiting D (take (daysLeft s today) m) v (d .from) (r .best))) in
-      let g : (net .0 * 100 + (s .efficiency - 1)) / s .efficiency < 121500001
+      let n : net .0 ≤ 120000 + 3000 * longestSeason = rw (r .net-total) (omega (arith, net-at-most s today waiting D (take (daysLeft s today) m) v (d .from) (r .best))) in
+      let g : (net .0 * 100 + (s .efficiency - 1)) / s .efficiency < 100 * (120000 + 3000 * longestSeason) + 1
       = div-lt-iff-lt-mul {k = s .efficiency} (omega (arith, v .ranges .efficiency .low≤)) .1 (omega (arith, v .ranges .efficiency .low≤)) in
       (n, rw (r .gross-total) (omega arith))
 

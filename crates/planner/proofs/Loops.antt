@@ -8,7 +8,7 @@ use native.Mathlib.Omega.{arith}
 use lib.ListN.{length, set, replicate, length-append, length-replicate}
 use Rattle.season.specs.declared.Season.{Season}
 use Rattle.season.specs.declared.SeasonDay.{SeasonDay}
-use Rattle.season.specs.Sheet.{Valid, DayOf, seasonDays}
+use Rattle.season.specs.Sheet.{Valid, DayOf, seasonDays, longestSeason}
 use Rattle.season.specs.Day.{cropNeed, readyOn}
 use Rattle.season.specs.Carried.{dayOf}
 use Rattle.season.proofs.Bounds.{need-le}
@@ -44,7 +44,7 @@ drawing-start {s} {today} {D} waiting v d h z e i b =
 
 -- Day i has its place among the depths.
 abbrev pub Placed : ℕ → ℕ → List ℕ → Type 0
-Placed today i l = (today ≤ i) × (i ≤ 365) × (i - today < length l)
+Placed today i l = (today ≤ i) × (i ≤ longestSeason) × (i - today < length l)
 
 -- Day t holds, or it holds with the turn day filled: what the loop goes on with.
 abbrev pub Ended : ℕ → ℕ → Track → List ℕ → Track → List ℕ → Type 0

@@ -3,12 +3,12 @@
 use mathlib.Core.Path.{_≡_}
 use mathlib.Core.Logic.{_↔_, _⊎_}
 use mathlib.Core.List.{List}
-use Prim.Native.Nat.{ℕ, _≤_, _<_}
+use Prim.Native.Nat.{ℕ, _+_, _*_, _≤_, _<_}
 use lib.ListN.{length, take, drop}
 use Rattle.season.specs.declared.Season.{Season}
 use Rattle.season.specs.declared.Net.{Net}
 use Rattle.season.specs.declared.Gross.{Gross}
-use Rattle.season.specs.Sheet.{Valid, DayOf}
+use Rattle.season.specs.Sheet.{Valid, DayOf, longestSeason}
 use Rattle.season.specs.Depths.{netIs, grossOf}
 use Rattle.planner.specs.declared.Planned.{Planned}
 use Rattle.planner.specs.declared.Planned.the-variants.{Made, Refused}
@@ -56,7 +56,7 @@ pub record Claims : Type 0 where
       → MadeRight s today D waiting l m days (net .0) (gross .0)
   -- The totals fit a u32: at most the depletion at first and 3,000 a day, and a hundred times that.
   pub totals-fit : (s : Season) (today D waiting days : ℕ) (net : Net) (gross : Gross) (l m : List ℕ) → Valid s → DayOf s today → D ≤ 120000
-      → answer s today D waiting l ≡ (Made days net gross, m) → (net .0 ≤ 1215000) × (gross .0 ≤ 121500000)
+      → answer s today D waiting l ≡ (Made days net gross, m) → (net .0 ≤ 120000 + 3000 * longestSeason) × (gross .0 ≤ 100 * (120000 + 3000 * longestSeason))
   -- Different answers have different numbers, and the answers given are those that can occur.
   pub numbers-one-to-one : (a b : Planned) → numbersOf a ≡ numbersOf b → a ≡ b
   pub answer-occurs : (s : Season) (today D waiting : ℕ) (l : List ℕ) → Occurs (answer s today D waiting l .0)

@@ -9,7 +9,7 @@ ghost use mathlib.Core.List.{_++_};
 ghost use Prim.Native.Nat.{_+_, _-_, _%_, _≤_, _<_};
 ghost use lib.ListN.{length, drop, replicate};
 ghost use lib.Dec.{eqb};
-ghost use Rattle.season.specs.Sheet.{Valid, DayOf};
+ghost use Rattle.season.specs.Sheet.{Valid, DayOf, longestSeason};
 ghost use Rattle.season.specs.Day.{rainOn};
 ghost use Rattle.season.specs.Carried.{OnDay};
 ghost use Rattle.planner.specs.Choices.{irrigated};
@@ -190,7 +190,7 @@ fn draw_depths(s: Season, today: u32, waiting: u32, start: u32, depths: &mut [u3
 
 // How many depths are above 0.
 fn irrigated_days(depths: &[u32]) -> u32
-    requires { ⌜ length (now depths) ≤ 365 ⌝ }
+    requires { ⌜ length (now depths) ≤ longestSeason ⌝ }
     ensures { λ r. ⌜ r ≡ irrigated (now (depths .entry)) ⌝ }
 {
     let mut days = 0;
@@ -269,6 +269,6 @@ pub fn make_plan(s: Season, today: u32, depletion: u32, waiting: u32, depths: &m
     if depths.len() < count {
         return Planned::Refused(15, 0);
     }
-    let mut draft = [0u32; 365];
+    let mut draft = [0u32; season::LONGEST_SEASON];
     answer_from(s, today, depletion, waiting, &mut draft[..count], depths)
 }

@@ -1,4 +1,4 @@
--- What the table call answers into a buffer of 222 numbers, as text.
+-- What the table call answers into a buffer of 174 numbers, as text.
 use Prim.Native.Nat.{ℕ, _+_, _*_, _≤_, _<_}
 use mathlib.Core.Path.{_≡_, refl, sym, ap, _∙_}
 use mathlib.Core.List.{List, _++_}
@@ -27,7 +27,7 @@ at-start text l h =
     let e : 0 + length text ≡ length text = omega arith in
     sets-eq text l 0 (omega arith) ∙ ap (λ (k : ℕ). text ++ drop k l) e
 
-module _ (b out : List ℕ) (long : length out ≡ 222) where
+module _ (b out : List ℕ) (long : length out ≡ 174) where
   accepted : (v : sheetOf b .verdict ≡ Accepted) → sheetTabled b out ≡ (Rows (rowCount (sheetOf b .season)), table (sheetOf b .season) ++ drop (rowCount (sheetOf b .season) * 6) out)
   accepted v =
       let s = sheetOf b .season in
@@ -39,7 +39,7 @@ module _ (b out : List ℕ) (long : length out ≡ 222) where
 
   -- The table's numbers, read back from the buffer.
   pub record As-rows (k : ℕ) (l : List ℕ) : Type 0 where
-    pub few : k ≤ 37
+    pub few : k ≤ 29
     pub text : cells 0 (take (k * 6) l) ≡ printed b
 
   pub rows-printed : (k : ℕ) (l : List ℕ) → (Rows k, l) ≡ sheetTabled b out → As-rows k l

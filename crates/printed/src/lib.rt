@@ -62,7 +62,7 @@ pub fn print_table(sheet: &[u8], text: &mut [u8]) -> usize
     if text.len() < 4096 {
         return 0;
     }
-    let mut rows = [0u32; 222];
+    let mut rows = [0u32; decades::MOST_NUMBERS];
     match controller::table(sheet, &mut rows) {
         Tabled::Rows(count) => put_cells(text, &rows, count * 6),
         Tabled::Refused(number, value) => {

@@ -31,12 +31,12 @@ pub record Ranged (s : Season) : Type 0 where
   pub opening : s .opening ≤ 120000
   pub turns : s .turns ≤ 127
 
--- n, the days of the season, and the most that refusal 5 lets pass.
+-- n, the days of the season, and the most that refusal 5 lets pass: 275 in place of document 01's 365 (request T-01).
 abbrev pub seasonDays : Season → ℕ
 seasonDays s = s .initial + s .development + s .middle + s .late
 
 abbrev pub longestSeason : ℕ
-longestSeason = 365
+longestSeason = 275
 
 -- What refusals 4, 5 and 6 leave.
 pub record Valid (s : Season) : Type 0 where

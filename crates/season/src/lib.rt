@@ -28,6 +28,9 @@ ghost use mathlib.Core.Path.{_≡_};
 ghost use Prim.Native.Nat.{_+_};
 ghost use Rattle.season.specs.Sheet.{Ranged, seasonDays};
 
+// The days of the longest season that refusal 5 lets pass.
+pub const LONGEST_SEASON: usize = 275;
+
 // The numbers of a sheet, by name: fields 1 and 2 the start, 3 to 6 the stages, 7 to 9 the crop coefficients, 10 to 21 ETo and
 // 22 to 33 dependable rain by month, 34 available water A, 35 and 36 root depth Z0 and Zm, 37 depletion fraction p, 38 efficiency E,
 // 39 opening depletion, 40 turns.

@@ -1,4 +1,4 @@
--- An accepted sheet's length: a byte for each number at least, and at most as many as the limits take, two fewer since n is at most 365.
+-- An accepted sheet's length: a byte for each number at least, and at most as many as the limits take, two fewer since n is at most 275.
 use Prim.Native.Nat.{ℕ, suc, _+_, _-_, _*_, _^_, _≤_, _<_}
 use mathlib.Core.Path.{_≡_, ap, _∙_}
 use mathlib.Core.List.{List, [], _∷_}

@@ -22,6 +22,10 @@ answer bytes = numbersOf (sheetOf bytes .verdict)
 abbrev changed : ℕ → ℕ → List ℕ → List ℕ
 changed place value fields = set fields place value
 
+-- The small sheet with other stages.
+abbrev staged : ℕ → ℕ → ℕ → ℕ → List ℕ
+staged a b c d = changed 2 a (changed 3 b (changed 4 c (changed 5 d small)))
+
 unfoldable pub edges : List (List ℕ × List ℕ)
 edges =
     -- the small sheet is accepted
@@ -33,7 +37,8 @@ edges =
     -- 3: the first extra byte, also where no number stands there
     ∷ (answer (written small ++ (0x00 ∷ 0x00 ∷ [])), 3 ∷ 41 ∷ [])
     ∷ (answer (written small ++ (0x80 ∷ 0x00 ∷ [])), 3 ∷ 41 ∷ [])
-    -- 5: 366 days; 365 are accepted
-    ∷ (answer (written (changed 2 166 (changed 3 100 (changed 4 50 (changed 5 50 small))))), 5 ∷ 0 ∷ [])
-    ∷ (answer (written (changed 2 165 (changed 3 100 (changed 4 50 (changed 5 50 small))))), 0 ∷ 0 ∷ [])
+    -- 5: 276 days, also where 6 applies; 275 are accepted
+    ∷ (answer (written (staged 76 100 50 50)), 5 ∷ 0 ∷ [])
+    ∷ (answer (written (changed 34 21 (staged 76 100 50 50))), 5 ∷ 0 ∷ [])
+    ∷ (answer (written (staged 75 100 50 50)), 0 ∷ 0 ∷ [])
     ∷ []

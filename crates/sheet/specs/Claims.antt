@@ -15,7 +15,7 @@ use Rattle.sheet.specs.Refusals.{sheetLines}
 use Rattle.sheet.specs.Cases.{small, edges}
 
 pub record Claims : Type 0 where
-  -- An accepted sheet's season is in its ranges, at most 365 days long, with Z0 at most Zm and an opening depletion of at most T on day 1.
+  -- An accepted sheet's season is in its ranges, at most 275 days long, with Z0 at most Zm and an opening depletion of at most T on day 1.
   pub accepted-season : (b : List ℕ) → sheetOf b .verdict ≡ Accepted → AcceptedSeason (sheetOf b .season)
   -- A refused sheet's numbers are all 0.
   pub refused-empty : (b : List ℕ) (number value : ℕ) → sheetOf b .verdict ≡ Refused number value → sheetOf b ≡ refusal number value

@@ -65,9 +65,6 @@ const LIMITS: [Limit; 40] = [
     Limit(0, 127),
 ];
 
-// The days that refusal 5 lets pass.
-const LONGEST_SEASON: u32 = 365;
-
 // ---- refusals 1 to 3
 
 // A refusal, and a lent buffer that is all 0.
@@ -221,7 +218,7 @@ fn judge(fields: &[u32; 40]) -> Verdict
         return Verdict::Refused(4, lowest_outside(fields));
     }
     let s = season_of(fields);
-    let long = LONGEST_SEASON < season::season_days(s);
+    let long = season::LONGEST_SEASON < season::season_days(s) as usize;
     let shrinking = s.full < s.sowing;
     let above_total = season::first_total(s) < s.opening;
     Verdict::Accepted

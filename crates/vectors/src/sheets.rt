@@ -1,6 +1,9 @@
 // A sheet from its forty numbers, and what the product says of a day of its season.
+use decades::MOST_NUMBERS;
+use decades::MOST_ROWS;
 use decades::Tabled;
 use planner::Planned;
+use season::LONGEST_SEASON;
 use season::Season;
 use season::SeasonDay;
 use trial::get;
@@ -136,23 +139,23 @@ pub fn row_count(sheet: &[u8], rows: &mut [u32]) -> usize {
 
 // The number in a row and a column of the table, each from 1.
 pub fn cell(sheet: &[u8], row: u32, column: u32) -> u32 {
-    let mut rows = [0u32; 222];
+    let mut rows = [0u32; MOST_NUMBERS];
     row_count(sheet, &mut rows);
     get(&rows, place(row, column))
 }
 
 fn place(row: u32, column: u32) -> usize {
     if row < 1 {
-        return 222;
+        return MOST_NUMBERS;
     }
     if column < 1 {
-        return 222;
+        return MOST_NUMBERS;
     }
-    if 37 < row {
-        return 222;
+    if MOST_ROWS < row {
+        return MOST_NUMBERS;
     }
     if 6 < column {
-        return 222;
+        return MOST_NUMBERS;
     }
     ((row - 1) * 6 + (column - 1)) as usize
 }
@@ -161,7 +164,7 @@ fn place(row: u32, column: u32) -> usize {
 fn sum_of(rows: &[u32], column: u32) -> u64 {
     let mut sum: u64 = 0;
     let mut row: u32 = 1;
-    while row <= 37 {
+    while row <= MOST_ROWS {
         sum = saturating_add(sum, get(rows, place(row, column)) as u64);
         row += 1;
     }
@@ -170,14 +173,14 @@ fn sum_of(rows: &[u32], column: u32) -> u64 {
 
 // The sum of a column of the table.
 pub fn column_sum(sheet: &[u8], column: u32) -> u64 {
-    let mut rows = [0u32; 222];
+    let mut rows = [0u32; MOST_NUMBERS];
     row_count(sheet, &mut rows);
     sum_of(&rows, column)
 }
 
 // The days before the first that no choice holds, on a blank journal; 0 where there is none.
 pub fn days_held(sheet: &[u8]) -> u64 {
-    let mut depths = [0u32; 365];
+    let mut depths = [0u32; LONGEST_SEASON];
     match controller::plan(sheet, b"", &mut depths) {
         Planned::Made(_, _, _) => 0,
         Planned::Refused(number, day) => before(number, day),
@@ -196,7 +199,7 @@ fn before(number: u32, day: usize) -> u64 {
 
 // How many rows the decade table has.
 pub fn rows(sheet: &[u8]) -> usize {
-    let mut rows = [0u32; 222];
+    let mut rows = [0u32; MOST_NUMBERS];
     row_count(sheet, &mut rows)
 }
 
@@ -223,7 +226,7 @@ fn quotient(n: u64, count: u64) -> u64 {
 // Of the plan on a blank journal: 1 the refusal's number × 1000 and its day, 2 the waterings, 3 the net total, 4 the
 // gross total.
 pub fn plan_number(sheet: &[u8], which: u32) -> u64 {
-    let mut depths = [0u32; 365];
+    let mut depths = [0u32; LONGEST_SEASON];
     match controller::plan(sheet, b"", &mut depths) {
         Planned::Refused(number, day) => if which == 1 {
             refusal_code(number, day)
@@ -241,7 +244,7 @@ pub fn plan_number(sheet: &[u8], which: u32) -> u64 {
 
 // The plan's depth on a season day.
 pub fn depth(sheet: &[u8], day: u32) -> u64 {
-    let mut depths = [0u32; 365];
+    let mut depths = [0u32; LONGEST_SEASON];
     if day < 1 {
         return 0;
     }

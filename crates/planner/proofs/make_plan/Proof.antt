@@ -3,6 +3,7 @@ use mathlib.Core.Path.{ap}
 use Prim.Native.Nat.{_+_, _-_}
 use native.Mathlib.Omega.{arith}
 use denote.Ref.{now}
+use Rattle.season.specs.Sheet.{longestSeason}
 use Rattle.planner.proofs.Answers.{answer-short, answer-enough, draft-length, draft-zeros}
 use borrow.Author.Needs.{needs}
 use Rattle.planner.proofs.make_plan.Statement.{statement}
@@ -15,14 +16,14 @@ returns c =
     answer-short (start .args .s) (start .args .today) (start .args .waiting) (start .args .depletion) (now (start .args .depths)) (rw (at-season-days .season-days .ensures) at (c .if1 .taken))
 
 slice-aggregate-answer-from : tie.Need-slice-aggregate-answer-from
-slice-aggregate-answer-from c = draft-length _ (omega (arith, c .before .before .season-days .ensures))
+slice-aggregate-answer-from c = draft-length longestSeason _ (omega (arith, c .before .before .season-days .ensures))
 
 answer-from-requires : tie.Need-answer-from-requires
 answer-from-requires c κs =
     let at-if1 = c .before .before in
     let at-season-days = at-if1 .before in
     let start = at-season-days .before .before in
-    (start .pre .0, (start .pre .1 .0, (start .pre .1 .1, (draft-zeros _ _ (ap (λ n. n + 1 - start .args .today) (at-season-days .season-days .ensures)) (omega arith), omega (arith, at-if1 .if1 .left, at-season-days .season-days .ensures)))))
+    (start .pre .0, (start .pre .1 .0, (start .pre .1 .1, (draft-zeros longestSeason _ _ (ap (λ n. n + 1 - start .args .today) (at-season-days .season-days .ensures)) (omega arith), omega (arith, at-if1 .if1 .left, at-season-days .season-days .ensures)))))
 
 returns-2 : tie.Need-returns-2
 returns-2 c =

@@ -19,10 +19,10 @@ returns c = too-short (now (c .before .before .before .args .sheet)) (now (c .be
 -- the rows that the table call answered
 rows-answered : (c : tie.After-count) →
     let at-table = c .before .before .before in
-    As-rows (now (at-table .before .before .before .before .before .args .sheet)) (replicate 222 0) refl (c .count .given .0 .0) (at-table .table .last .1 .0)
+    As-rows (now (at-table .before .before .before .before .before .args .sheet)) (replicate 174 0) refl (c .count .given .0 .0) (at-table .table .last .1 .0)
 rows-answered c =
     let at-table = c .before .before .before in
-    rows-printed (now (at-table .before .before .before .before .before .args .sheet)) (replicate 222 0) refl _ (at-table .table .last .1 .0)
+    rows-printed (now (at-table .before .before .before .before .before .args .sheet)) (replicate 174 0) refl _ (at-table .table .last .1 .0)
     (ap (λ (r : Tabled). (r, at-table .table .last .1 .0)) (sym (c .count .given .1)) ∙ at-table .table .ensures)
 
 mul-put-cells : tie.Need-mul-put-cells
@@ -82,7 +82,7 @@ returns-3 c =
     let y = cell (at-number .number .given .0 .1 .0) 10 in
     let two = joined x y (now (start .args .text)) _ _ _ _ (at-put-cell .put-cell .ensures .0) (at-put-cell .put-cell .ensures .1) (at-put-cell2 .put-cell2 .ensures .0) (at-put-cell2 .put-cell2 .ensures .1) in
     stored (now (start .args .sheet)) (x ++ y) (now (start .args .text)) _ _ (at-if1 .if1 .left)
-    (refusal-printed (now (start .args .sheet)) (replicate 222 0) refl _ _ (at-table .table .last .1 .0)
+    (refusal-printed (now (start .args .sheet)) (replicate 174 0) refl _ _ (at-table .table .last .1 .0)
     (ap (λ (r : Tabled). (r, at-table .table .last .1 .0)) (sym (at-number .number .given .1)) ∙ at-table .table .ensures))
     (omega (arith, at-if1 .if1 .left, length-append x y, cell-of-word (at-number .number .given .0 .0) 32 f, cell-of-word (at-number .number .given .0 .1 .0) 10 h))
     (two .0) (two .1)

@@ -72,6 +72,7 @@ judge-spec =
     returns
     season-of-requires
     season-days-requires
+    (λ c. search needs)
     first-total-requires
     or-refused-requires
     or-refused-requires-2
