@@ -31,7 +31,7 @@
  * do its stores, which may be cut in turn; then enter again what was cut.
  *
  * STACK, THREADS AND SIGNALS
- *   Stack on x86-64, beside what memcpy and memset take: the plan less than 3 KB, every other call less than 1.2 KB.
+ *   Stack on x86-64, beside what memcpy and memset take: the plan less than 2.6 KB, every other call less than 1.2 KB.
  *   Where memcpy and memset are bound lazily, the first call that uses one takes some 3 KB more, once: link with
  *   -z now, or statically, and it does not.
  *   No heap, no globals, no locks, no recursion, no system call: calls on different buffers may run at once in any
@@ -51,8 +51,8 @@ extern "C" {
 
 #define BALLADSKY_OUT 12     /* numbers of out */
 #define BALLADSKY_AREA 8192  /* bytes of the longest area */
-#define BALLADSKY_DEPTHS 365 /* numbers that every plan fits in */
-#define BALLADSKY_ROWS 222   /* numbers that every table fits in: 37 rows of six */
+#define BALLADSKY_DEPTHS 275 /* numbers that every plan fits in */
+#define BALLADSKY_ROWS 174   /* numbers that every table fits in: 29 rows of six */
 
 /* What out[0] says. A refusal is the first that applies, read downward, of those that the call gives. In brackets what
  * out[1] then is; else it is 0. None passes 8,192.
@@ -68,7 +68,7 @@ enum {
                                            [the offending byte's place] */
     BALLADSKY_BYTES_FOLLOW = 3,         /* bytes follow the fortieth number [the first extra byte's place] */
     BALLADSKY_FIELD_OUT_OF_RANGE = 4,   /* a field is outside its range [the lowest such field, 1 to 40] */
-    BALLADSKY_SEASON_TOO_LONG = 5,      /* the season is longer than 365 days */
+    BALLADSKY_SEASON_TOO_LONG = 5,      /* the season is longer than 275 days */
     BALLADSKY_ROOTS_SHRINK = 6,         /* the root depth at sowing is above the full one */
     BALLADSKY_OPENING_TOO_DRY = 7,      /* the opening depletion is above the total water of day 1 */
     BALLADSKY_AREA_TOO_LONG = 8,        /* the area is longer than 8,192 bytes */

@@ -138,7 +138,7 @@ impl Tally {
 
     /// All seven calls.
     fn all(&mut self, g: &mut Dice, sheet: &[u8], area: &[u8]) {
-        let (depths, rows) = (g.pick(&[0, 1, 5, 11, 364, 365, 366]), g.pick(&[0, 5, 6, 11, 12, 215, 216, 221, 222, 230]));
+        let (depths, rows) = (g.pick(&[0, 1, 5, 11, 274, 275, 276]), g.pick(&[0, 5, 6, 11, 12, 167, 168, 173, 174, 175]));
         let (a, b) = (random::amount(g), random::amount(g));
         for ask in [Ask::Open, Ask::Rain(a), Ask::Irrigation(b), Ask::Close, Ask::Mend, Ask::Plan(depths), Ask::Table(rows)] {
             self.same(g, sheet, area, ask);
@@ -149,7 +149,7 @@ impl Tally {
 /// Sheets valid and damaged, on short areas.
 fn sheets(t: &mut Tally, g: &mut Dice) {
     for _ in 0..30_000 {
-        let days = g.pick(&[4, 30, 365]);
+        let days = g.pick(&[4, 30, plain::DAYS as u32]);
         let mut sheet = plain::write_sheet(&random::spoilt_fields(g, days));
         random::spoil_sheet(g, &mut sheet);
         let area = vec![0xff; g.of(0, 12) as usize];
@@ -161,18 +161,38 @@ fn sheets(t: &mut Tally, g: &mut Dice) {
     }
 }
 
+/// The longest season and one a day longer, from every date, with one number too few, enough and one more.
+fn longest(t: &mut Tally, g: &mut Dice) {
+    let mut rows = 0;
+    for (days, month) in [275, 276].into_iter().flat_map(|n| (1..=12).map(move |m| (n, m))) {
+        for date in 1..=plain::MONTHS[month as usize - 1] {
+            let mut f = random::with(random::fields(g, 275), &[(1, month), (2, date), (39, 0)]);
+            f[2..6].copy_from_slice(&random::stages(g, days));
+            let sheet = plain::write_sheet(&f);
+            for (depths, numbers) in [(274, 173), (275, 174), (276, 175)] {
+                t.same(g, &sheet, &[0xff; 8], Ask::Plan(depths));
+                let out = t.same(g, &sheet, &[], Ask::Table(numbers));
+                assert_eq!(out[0] == library::SEASON_TOO_LONG, days == 276);
+                rows = if out[0] == 0 { rows.max(out[2]) } else { rows };
+            }
+        }
+    }
+    assert_eq!(rows, 29, "the most rows of a table");
+}
+
 /// Areas of every length from 0 to 8,193: full of entries as far as they go, blank, or blank but for the last byte.
 fn lengths(t: &mut Tally, g: &mut Dice) {
-    let f = random::with(random::fields(g, 365), &[(3, 90), (4, 90), (5, 90), (6, 95)]);
+    let f = random::with(random::fields(g, 275), &[(3, 45), (4, 70), (5, 90), (6, 70), (39, 0)]);
     let sheet = plain::write_sheet(&f);
     let mut full = Vec::new();
-    for day in 1..=365 {
-        for _ in 0..g.of(0, 14) {
+    for day in 1..=275 {
+        for _ in 0..g.of(6, 14) {
             full.extend(book::bytes(book::Entry::Irrigation(g.of(1, 17_000))));
         }
         full.extend(book::bytes(book::Entry::Close(day)));
     }
-    full.resize(8_193, 0xff);
+    assert!(full.len() > 8_192, "the entries do not fill an area");
+    full.truncate(8_193);
     for length in 0..=8_193 {
         let mut area = match length % 4 {
             0 => vec![0xff; length],
@@ -188,7 +208,7 @@ fn lengths(t: &mut Tally, g: &mut Dice) {
 /// Journals clean, torn and damaged.
 fn journals(t: &mut Tally, g: &mut Dice) {
     for round in 0..20_000 {
-        let sheet = plain::write_sheet(&random::fields(g, if round % 4 == 0 { 365 } else { 12 }));
+        let sheet = plain::write_sheet(&random::fields(g, if round % 4 == 0 { plain::DAYS as u32 } else { 12 }));
         let season = plain::read_sheet(&sheet).unwrap();
         let area = random::any_journal(g, &season, &sheet, 1_300);
         t.all(g, &sheet, &area);
@@ -198,14 +218,14 @@ fn journals(t: &mut Tally, g: &mut Dice) {
 /// Plans and tables of long seasons, on clean journals.
 fn plans(t: &mut Tally, g: &mut Dice) {
     for _ in 0..10_000 {
-        let sheet = plain::write_sheet(&random::fields(g, 365));
+        let sheet = plain::write_sheet(&random::fields(g, plain::DAYS as u32));
         let season = plain::read_sheet(&sheet).unwrap();
         let (area, l) = random::journal(g, &season, &sheet, 4_000);
         let left = (season.days + 1 - l.day) as usize;
-        for room in [left, left.saturating_sub(1), 365] {
+        for room in [left, left.saturating_sub(1), plain::DAYS] {
             t.same(g, &sheet, &area, Ask::Plan(room));
         }
-        t.same(g, &sheet, &[], Ask::Table(222));
+        t.same(g, &sheet, &[], Ask::Table(6 * plain::ROWS));
     }
 }
 
@@ -232,7 +252,7 @@ fn histories(t: &mut Tally, g: &mut Dice) -> (u64, u64) {
     let (mut calls, mut torn) = (0, 0);
     for history in 1..=1_200 {
         let (long, fill) = (history % 16 == 0, history % 200 == 0);
-        let sheet = plain::write_sheet(&random::fields(g, if long { 365 } else { 12 }));
+        let sheet = plain::write_sheet(&random::fields(g, if long { plain::DAYS as u32 } else { 12 }));
         let season = plain::read_sheet(&sheet).unwrap();
         let length = if fill { 8_192 } else if long { g.pick(&[900, 1_500, 8_192]) } else { g.of(0, 90) as usize };
         let mut area = vec![0xff; length];
@@ -247,7 +267,7 @@ fn histories(t: &mut Tally, g: &mut Dice) -> (u64, u64) {
                 0 | 1 | 2 => Call::Rain(amount),
                 3 | 4 => Call::Irrigation(amount),
                 5 if g.one_in(2) => Call::Mend,
-                _ if fill && g.one_in(2) => Call::Rain(g.of(16_384, 17_000)),
+                _ if fill && !g.one_in(4) => Call::Rain(g.of(16_384, 17_000)),
                 _ => Call::Close,
             };
             let out = t.same(g, &sheet, &area, asking(call));
@@ -280,7 +300,7 @@ fn histories(t: &mut Tally, g: &mut Dice) -> (u64, u64) {
             }
             book.call(call, done);
         }
-        t.same(g, &sheet, &area, Ask::Plan(365));
+        t.same(g, &sheet, &area, Ask::Plan(plain::DAYS));
     }
     (calls, torn)
 }
@@ -381,8 +401,9 @@ fn main() {
     let mut g = Dice(seed);
     let mut t = Tally { cases: 0, answers: [[0; 17]; 7], guards: Guards::new() };
     memory::report_faults();
-    let parts: [(&str, fn(&mut Tally, &mut Dice)); 4] = [
-        ("sheets, valid and damaged", sheets), ("areas of 0 to 8,193 bytes", lengths), ("journals clean, torn and damaged", journals),
+    let parts: [(&str, fn(&mut Tally, &mut Dice)); 5] = [
+        ("sheets, valid and damaged", sheets), ("the longest season and a day more, from every date", longest),
+        ("areas of 0 to 8,193 bytes", lengths), ("journals clean, torn and damaged", journals),
         ("plans and tables of long seasons", plans),
     ];
     for (name, part) in parts {

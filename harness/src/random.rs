@@ -75,6 +75,16 @@ pub fn fields(g: &mut Dice, days: u32) -> [u32; 40] {
     f
 }
 
+/// Four stages of so many days in all.
+pub fn stages(g: &mut Dice, days: u32) -> [u32; 4] {
+    loop {
+        let f = [g.of(1, 200), g.of(1, 200), g.of(1, 200)];
+        if let Some(late @ 1..=200) = days.checked_sub(f.iter().sum()) {
+            return [f[0], f[1], f[2], late];
+        }
+    }
+}
+
 /// Fields at the edge of a refusal, or just past it.
 pub fn spoilt_fields(g: &mut Dice, days: u32) -> [u32; 40] {
     let mut f = fields(g, days);
@@ -83,6 +93,10 @@ pub fn spoilt_fields(g: &mut Dice, days: u32) -> [u32; 40] {
         2 => (f[34], f[35]) = (f[35], f[34]),
         3 => f[38] += g.of(0, 3),
         4 => f[2 + g.of(0, 3) as usize] = g.of(150, 200),
+        5 => {
+            let days = DAYS as u32 + g.of(0, 1);
+            f[2..6].copy_from_slice(&stages(g, days));
+        }
         _ => {}
     }
     f

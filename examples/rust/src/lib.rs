@@ -6,8 +6,8 @@ pub type Out = [u32; OUT];
 
 pub const OUT: usize = 12;
 pub const AREA: usize = 8192;
-pub const DEPTHS: usize = 365;
-pub const ROWS: usize = 222;
+pub const DEPTHS: usize = 275;
+pub const ROWS: usize = 174;
 
 /// What out[0] says: accepted, or clean; torn, from open; else a refusal.
 pub const ACCEPTED: u32 = 0;

@@ -28,10 +28,10 @@ fn timed(run: &mut Run, batch: u32) -> f64 {
     t.elapsed().as_nanos() as f64 / batch as f64
 }
 
-/// A season of 365 days.
+/// A season of 275 days, the longest.
 fn season(eto: u32, rain: u32, available: u32, (sown, full): (u32, u32), fraction: u32) -> Vec<u8> {
     let mut f = [0; 40];
-    f[..9].copy_from_slice(&[3, 21, 60, 90, 120, 95, 35, 115, 60]);
+    f[..9].copy_from_slice(&[3, 21, 45, 70, 90, 70, 35, 115, 60]);
     for m in 0..12 {
         f[9 + m] = eto + 20 * m as u32;
         f[21 + m] = rain + 300 * m as u32;
@@ -66,20 +66,20 @@ fn two_byte(left: usize) -> Vec<u8> {
 /// At most 14 four-byte entries fit a day, so closes stand among them.
 fn four_byte(left: usize) -> Vec<u8> {
     let day = |day| (0..14).map(move |i| water((day * i) % 3 % 2, 16_384 + (31 * day + i) % 700)).chain([Entry::Close(day)]);
-    area((1..=365).flat_map(day), left)
+    area((1..=275).flat_map(day), left)
 }
 
 fn closed_days(days: u32) -> Vec<u8> {
     area((1..=days).map(Entry::Close), 0)
 }
 
-/// Seven entries a day of two, three and four bytes, in no order.
+/// Ten entries a day of two, three and four bytes, in no order.
 fn mixed(journal: u64, left: usize) -> Vec<u8> {
     let mut g = Dice(journal);
     let mut entries = Vec::new();
-    for day in 1..=365 {
-        for _ in 0..7 {
-            let (least, most) = g.pick(&[(1, 127), (128, 16_383), (16_384, 30_000)]);
+    for day in 1..=275 {
+        for _ in 0..10 {
+            let (least, most) = g.pick(&[(1, 127), (128, 16_383), (16_384, 24_000)]);
             entries.push(water(g.of(0, 1), g.of(least, most)));
         }
         entries.push(Entry::Close(day));
@@ -151,24 +151,24 @@ fn rain_line<'a>(name: &str, sheet: &'a [u8], areas: &'a [Vec<u8>]) -> Line<'a> 
 }
 
 fn plan_line<'a>(name: &str, sheet: &'a [u8], area: &'a [u8]) -> Line<'a> {
-    let (mut out, mut ours, mut theirs) = ([NOISE; 12], [0; 365], [0; 365]);
+    let (mut out, mut ours, mut theirs) = ([NOISE; 12], [0; 275], [0; 275]);
     library::plan(sheet, area, &mut ours, &mut out);
     same(name, &out, &numbers::planned(plain::plan(sheet, area, &mut theirs)));
     assert_eq!(ours, theirs, "{name}");
     line(
-        format!("plan: 365 days, {name}, {} waterings", out[2]),
+        format!("plan: 275 days, {name}, {} waterings", out[2]),
         move || library::plan(black_box(sheet), black_box(area), black_box(&mut ours), black_box(&mut out)),
         move || { black_box(plain::plan(black_box(sheet), black_box(area), black_box(&mut theirs))); },
     )
 }
 
 fn table_line(sheet: &[u8]) -> Line<'_> {
-    let (mut out, mut ours, mut theirs) = ([NOISE; 12], [0; 222], [0; 222]);
+    let (mut out, mut ours, mut theirs) = ([NOISE; 12], [0; 174], [0; 174]);
     library::table(sheet, &mut ours, &mut out);
     same("table", &out, &numbers::tabled(plain::table(sheet, &mut theirs)));
     assert_eq!(ours, theirs, "table");
     line(
-        format!("table: 365 days, {} rows", out[2]),
+        format!("table: 275 days, {} rows", out[2]),
         move || library::table(black_box(sheet), black_box(&mut ours), black_box(&mut out)),
         move || { black_box(plain::table(black_box(sheet), black_box(&mut theirs))); },
     )
@@ -176,24 +176,24 @@ fn table_line(sheet: &[u8]) -> Line<'_> {
 
 fn main() {
     let sheet = season(300, 2_000, 140, (30, 150), 50);
-    let few = season(300, 2_000, 400, (200, 300), 60);
+    let few = season(300, 2_000, 140, (200, 300), 60);
     let many = season(500, 100, 100, (15, 20), 60);
-    let (two, four, closed, blank) = ([two_byte(0)], [four_byte(0)], [closed_days(365)], [vec![0xff; 8_192]]);
-    let (two_left, four_left, closed_left) = ([two_byte(8)], [four_byte(8)], [closed_days(364)]);
-    let (uneven, season) = (journals(|j| mixed(j, 0)), journals(|j| usual(j, 365)));
-    let (uneven_left, season_left) = (journals(|j| mixed(j, 8)), journals(|j| usual(j, 364)));
+    let (two, four, closed, blank) = ([two_byte(0)], [four_byte(0)], [closed_days(275)], [vec![0xff; 8_192]]);
+    let (two_left, four_left, closed_left) = ([two_byte(8)], [four_byte(8)], [closed_days(274)]);
+    let (uneven, season) = (journals(|j| mixed(j, 0)), journals(|j| usual(j, 275)));
+    let (uneven_left, season_left) = (journals(|j| mixed(j, 8)), journals(|j| usual(j, 274)));
     let empty = [Vec::new()];
     let mut lines = vec![
         open_line("8,192 bytes of four-byte entries", &sheet, &four),
         open_line("8,192 bytes of two-byte entries", &sheet, &two),
         open_line("8,192 bytes of mixed lengths", &sheet, &uneven),
-        open_line("8,192 bytes, 365 closed days", &sheet, &closed),
+        open_line("8,192 bytes, 275 closed days", &sheet, &closed),
         open_line("8,192 bytes, a usual season", &sheet, &season),
         open_line("8,192 bytes, blank", &sheet, &blank),
         rain_line("four-byte entries", &sheet, &four_left),
         rain_line("two-byte entries", &sheet, &two_left),
         rain_line("mixed lengths", &sheet, &uneven_left),
-        rain_line("364 closed days", &sheet, &closed_left),
+        rain_line("274 closed days", &sheet, &closed_left),
         rain_line("a usual season", &sheet, &season_left),
         plan_line("few", &few, &blank[0][..64]),
         plan_line("many", &many, &blank[0][..64]),

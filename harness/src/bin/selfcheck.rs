@@ -34,7 +34,7 @@ const FF: [u8; 8_192] = [0xff; 8_192];
 // ------------------------------------------------------------------ document 01's own numbers
 
 fn printed(sheet: &[u8]) -> String {
-    let mut rows = [0; 222];
+    let mut rows = [0; 6 * ROWS];
     let t = table(sheet, &mut rows);
     if t.number != 0 {
         return format!("{} {}\n", t.number, t.value);
@@ -85,12 +85,12 @@ fn daggers() -> (u64, u64) {
     for (q, e) in [(10_000, 8_400), (25_000, 15_000), (25_001, 15_000), (60_000, 18_500)] {
         t.same(|| format!("effective {q}"), effective(q), e);
         let f = with(small(127), &[(2, 1), (3, 10), (4, 10), (5, 10), (22, q)]);
-        let mut rows = [0; 222];
+        let mut rows = [0; 6 * ROWS];
         let made = table(&write_sheet(&f), &mut rows);
         t.same(|| format!("January {q}"), (made.rows, rows[3] + rows[9] + rows[15]), (3, e));
     }
     let hundred = [(22, 101)];
-    let mut rows = [0; 222];
+    let mut rows = [0; 6 * ROWS];
     table(&write_sheet(&with(with(small(127), &hundred), &[(1, 12), (2, 29)])), &mut rows);
     t.same(|| "rain of 1 January".into(), &rows[6..10], &[1, 1, rows[8], 3][..]);
     table(&write_sheet(&with(with(small(127), &hundred), &[(2, 31)])), &mut rows);
@@ -170,7 +170,7 @@ fn slow_sheet(sheet: &[u8]) -> Result<[u32; 40], (u32, usize)> {
         }
     }
     let grown = f[2] + f[3];
-    if f[2] + f[3] + f[4] + f[5] > 365 {
+    if f[2] + f[3] + f[4] + f[5] > 275 {
         Err((5, 0))
     } else if f[34] > f[35] {
         Err((6, 0))
@@ -185,7 +185,7 @@ fn sheet_bytes(g: &mut Dice, percent: u32) -> (u64, u64) {
     let mut t = tally();
     let mut seen = [0u32; 9];
     for _ in 0..2_000 * percent {
-        let days = g.pick(&[4, 30, 365]);
+        let days = g.pick(&[4, 30, DAYS as u32]);
         let mut sheet = write_sheet(&random::spoilt_fields(g, days));
         random::spoil_sheet(g, &mut sheet);
         let want = slow_sheet(&sheet);
@@ -207,7 +207,7 @@ fn long_seasons(g: &mut Dice, percent: u32) -> (u64, u64) {
     let mut t = tally();
     let mut refused = 0;
     for _ in 0..30 * percent {
-        let f = random::fields(g, 365);
+        let f = random::fields(g, DAYS as u32);
         let sheet = write_sheet(&f);
         let s = read_sheet(&sheet).unwrap();
         let mut rows: Vec<[u32; 6]> = Vec::new();
@@ -225,20 +225,20 @@ fn long_seasons(g: &mut Dice, percent: u32) -> (u64, u64) {
             row[4] = row[2].max(row[3]) - row[3];
             row[5] = (row[4] * 100 + s.efficiency - 1) / s.efficiency;
         }
-        let mut got = [0; 222];
+        let mut got = [0; 6 * ROWS];
         let made = table(&sheet, &mut got);
         t.same(|| format!("table {f:?}"), (made.rows, &got[..6 * made.rows]), (rows.len(), rows.as_flattened()));
         // The plan as the document tells it: find the failing day from the start, each time anew.
         let (area, l) = random::journal(g, &s, &sheet, 4_000);
-        let mut got = [9; 366];
+        let mut got = [9; DAYS + 1];
         let p = plan(&sheet, &area, &mut got);
         // A lone 01 after the last entry: torn, or damaged once all days are closed. Then the refusals' order.
         let mut spoilt = area.clone();
         spoilt[l.place] = 1;
         let refusal = |area: &[u8], room: usize| {
-            let mut buffer = [9; 365];
+            let mut buffer = [9; DAYS];
             let p = plan(&sheet, area, &mut buffer[..room]);
-            (p.number, p.value, p.waterings + p.net + p.gross, buffer == [9; 365])
+            (p.number, p.value, p.waterings + p.net + p.gross, buffer == [9; DAYS])
         };
         let ended = l.day > s.days;
         t.same(|| format!("spoilt plan {f:?}"), refusal(&spoilt, 0), (if ended { 9 } else { 10 }, l.place, 0, true));
@@ -251,7 +251,7 @@ fn long_seasons(g: &mut Dice, percent: u32) -> (u64, u64) {
         let (number, value, depths) = slow_plan(&s, &l);
         refused += (number == 16) as u32;
         t.same(|| format!("plan {f:?}"), (p.number, p.value), (number, value));
-        let mut want = [9; 366];
+        let mut want = [9; DAYS + 1];
         if number == 0 {
             want[..depths.len()].copy_from_slice(&depths);
             let net: u32 = depths.iter().sum();
@@ -435,7 +435,7 @@ fn histories(g: &mut Dice, percent: u32) -> (u64, u64) {
     while calls < 3_000 * percent as u64 {
         histories += 1;
         let (long, fill) = (histories % 16 == 0, histories % 160 == 0);
-        let f = random::fields(g, if long { 365 } else { 12 });
+        let f = random::fields(g, if long { DAYS as u32 } else { 12 });
         let sheet = write_sheet(&f);
         let season = read_sheet(&sheet).unwrap();
         let length = if fill { 8_192 } else if long { g.pick(&[900, 1_500, 8_192]) } else { g.of(0, 90) as usize };
@@ -451,7 +451,7 @@ fn histories(g: &mut Dice, percent: u32) -> (u64, u64) {
                 0 | 1 | 2 => Call::Rain(amount),
                 3 | 4 => Call::Irrigation(amount),
                 5 if g.one_in(2) => Call::Mend,
-                _ if fill && g.one_in(2) => Call::Rain(g.of(16_384, 17_000)),
+                _ if fill && !g.one_in(4) => Call::Rain(g.of(16_384, 17_000)),
                 _ => Call::Close,
             };
             let answer = asked(&sheet, &area, call);
@@ -576,7 +576,7 @@ fn any_bytes(g: &mut Dice, percent: u32) -> (u64, u64) {
 }
 
 fn g_days(round: u32) -> u32 {
-    if round % 4 == 0 { 365 } else { 12 }
+    if round % 4 == 0 { DAYS as u32 } else { 12 }
 }
 
 fn main() {
