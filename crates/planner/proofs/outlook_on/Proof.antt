@@ -8,7 +8,12 @@ turn-in-requires : tie.Need-turn-in-requires
 turn-in-requires c κs = omega (arith, c .before .before .before .pre .1 .1 .1)
 
 returns : tie.Need-returns
-returns c = cc
+returns c =
+    let at-water-on = c .before in
+    let at-ready-on = at-water-on .before in
+    let at-crop-need = at-ready-on .before in
+    let start = at-crop-need .before in
+    rw (c .turn-in .ensures, at-water-on .water-on .ensures, at-ready-on .ready-on .ensures, at-crop-need .crop-need .ensures, start .pre .1 .1 .0, start .pre .1 .1 .1)
 
 pub outlook-on-spec : {M : Type 1} → statement M
 outlook-on-spec =

@@ -18,7 +18,7 @@ add-t9 c = search needs
 
 returns : tie.Need-returns
 unfolding closeDay
-returns c = cc
+returns c = rw (c .saturating-sub2 .ensures, c .before .crop-use .ensures, c .before .before .saturating-sub .ensures)
 
 pub close-day-spec : {M : Type 1} → statement M
 close-day-spec =
