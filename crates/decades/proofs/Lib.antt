@@ -1,4 +1,3 @@
-pub mod Stores
 pub mod Year
 pub mod Count
 pub mod Rows

@@ -30,45 +30,65 @@ fill-more bytes i l f =
     ∙ ap (λ (t : List ℕ). t ++ replicate m 0) (sym (take-suc bytes i 0 l))
     ∙ ap (λ (k : ℕ). take k bytes ++ replicate m 0) (sym (add-one i))
 
--- i groups of n are stored, and rest is what is left of n
-pub record Split (n : ℕ) (bytes : List ℕ) (rest i : ℕ) : Type 0 where
+-- i groups of n are split off, and rest is what is left of n
+pub record Left (n rest i : ℕ) : Type 0 where
   pub counted : i + groupCount rest ≡ groupCount n
   pub behind : drop i (encode n) ≡ encode rest
+
+pub all-left : (n : ℕ) → Left n n 0
+all-left n = record { counted = omega arith; behind = refl }
+
+module _ {n rest i : ℕ} (h : Left n rest i) where
+  head-is : (b : ℕ) (bs : List ℕ) → encode rest ≡ b ∷ bs → (getD (encode n) i 0 ≡ b) × (drop (i + 1) (encode n) ≡ bs)
+  head-is b bs e =
+      let q : drop i (encode n) ≡ b ∷ bs = h .behind ∙ e in
+      let z : i ≡ i + 0 = omega arith in (
+        ap (λ (k : ℕ). getD (encode n) k 0) z ∙ sym (getD-drop i (encode n) 0 0) ∙ ap (λ (t : List ℕ). getD t 0 0) q,
+        sym (drop-drop 1 i (encode n)) ∙ ap (drop 1) q,
+      )
+
+  pub left-within : i < length (encode n)
+  left-within = omega (arith, encode-length n, count-pos rest, h .counted)
+
+  pub left-few : n < 2 ^ 32 → i < 5
+  left-few f = omega (arith, count-le n 4 (omega arith), count-pos rest, h .counted)
+
+  -- the next byte, and what is left then
+  pub left-byte : 128 ≤ rest → bitOr (bitAnd rest 127) 128 ≡ getD (encode n) i 0
+  left-byte m = mark-is rest ∙ sym (head-is _ _ (encode-more rest m) .0)
+
+  pub left-more : 128 ≤ rest → Left n (rest / 128) (i + 1)
+  left-more m = record { counted = omega (arith, count-more rest m, h .counted); behind = head-is _ _ (encode-more rest m) .1 }
+
+  -- the last byte, with which all are
+  pub left-last : rest < 128 → rest ≡ getD (encode n) i 0
+  left-last m = sym (head-is _ _ (encode-last rest m) .0)
+
+  pub left-end : rest < 128 → i + 1 ≡ groupCount n
+  left-end m = omega (arith, count-last rest m, h .counted)
+
+-- and those i are stored
+pub record Split (n : ℕ) (bytes : List ℕ) (rest i : ℕ) : Type 0 where
+  pub left : Left n rest i
   pub stored : bytes ≡ filled (encode n) i
 
 pub none-split : (n : ℕ) → Split n (0 ∷ 0 ∷ 0 ∷ 0 ∷ 0 ∷ []) n 0
-none-split n = record { counted = omega arith; behind = refl; stored = refl }
-
-head-is : {n : ℕ} {bytes : List ℕ} {rest i : ℕ} → Split n bytes rest i → (b : ℕ) (bs : List ℕ) → encode rest ≡ b ∷ bs
-    → (getD (encode n) i 0 ≡ b) × (drop (i + 1) (encode n) ≡ bs)
-head-is {n} {bytes} {rest} {i} h b bs e =
-    let q : drop i (encode n) ≡ b ∷ bs = h .behind ∙ e in
-    let z : i ≡ i + 0 = omega arith in (
-      ap (λ (k : ℕ). getD (encode n) k 0) z ∙ sym (getD-drop i (encode n) 0 0) ∙ ap (λ (t : List ℕ). getD t 0 0) q,
-      sym (drop-drop 1 i (encode n)) ∙ ap (drop 1) q,
-    )
-
-pub split-few : {n : ℕ} {bytes : List ℕ} {rest i : ℕ} → n < 2 ^ 32 → Split n bytes rest i → i < 5
-split-few {n} {bytes} {rest} {i} f h = omega (arith, count-le n 4 (omega arith), count-pos rest, h .counted)
+none-split n = record { left = all-left n; stored = refl }
 
 pub split-more : {n : ℕ} {bytes : List ℕ} {rest i : ℕ} → n < 2 ^ 32 → Split n bytes rest i → 128 ≤ rest
     → Split n (set bytes i (bitOr (bitAnd rest 127) 128)) (rest / 128) (i + 1)
 split-more {n} {bytes} {rest} {i} f h m =
-    let d = head-is h _ _ (encode-more rest m) in
     record {
-      counted = omega (arith, count-more rest m, h .counted);
-      behind = d .1;
+      left = left-more (h .left) m;
       stored =
-          ap₂ (λ (t : List ℕ) (v : ℕ). set t i v) (h .stored) (mark-is rest ∙ sym (d .0))
-          ∙ fill-more (encode n) i (omega (arith, encode-length n, count-pos rest)) (split-few f h);
+          ap₂ (λ (t : List ℕ) (v : ℕ). set t i v) (h .stored) (left-byte (h .left) m)
+          ∙ fill-more (encode n) i (left-within (h .left)) (left-few (h .left) f);
     }
 
 pub split-last : {n : ℕ} {bytes : List ℕ} {rest i : ℕ} → n < 2 ^ 32 → Split n bytes rest i → rest < 128
     → set bytes i rest ≡ encode n ++ replicate (5 - groupCount n) 0
 split-last {n} {bytes} {rest} {i} f h m =
-    let d = head-is h _ _ (encode-last rest m) in
-    let e : i + 1 ≡ groupCount n = omega (arith, count-last rest m) in
-    ap₂ (λ (t : List ℕ) (v : ℕ). set t i v) (h .stored) (sym (d .0))
-    ∙ fill-more (encode n) i (omega (arith, encode-length n, count-pos rest)) (split-few f h)
-    ∙ ap (filled (encode n)) e
+    ap₂ (λ (t : List ℕ) (v : ℕ). set t i v) (h .stored) (left-last (h .left) m)
+    ∙ fill-more (encode n) i (left-within (h .left)) (left-few (h .left) f)
+    ∙ ap (filled (encode n)) (left-end (h .left) m)
     ∙ ap (λ (t : List ℕ). t ++ replicate (5 - groupCount n) 0) (take-all (groupCount n) (encode n) (omega (arith, encode-length n)))

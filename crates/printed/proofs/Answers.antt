@@ -1,18 +1,18 @@
 -- What the table call answers into a buffer of 174 numbers, as text.
-use Prim.Native.Nat.{ℕ, _+_, _*_, _≤_, _<_}
+use Prim.Native.Nat.{ℕ, _*_, _≤_, _<_}
 use mathlib.Core.Path.{_≡_, refl, sym, ap, _∙_}
 use mathlib.Core.List.{List, _++_}
 use native.Mathlib.Omega.{arith}
 use borrow.Author.Tests.{lt-ltb, le-ltb}
-use lib.ListN.{length, take, drop, length-append}
-use lib.Seq.{sets, sets-eq, length-sets, take-at, length-take-le}
+use lib.ListN.{length, take, drop}
+use lib.Seq.{sets, length-sets, take-at, length-take-le}
 use Rattle.verdict.specs.declared.Verdict.{Verdict}
 use Rattle.verdict.specs.declared.Verdict.the-variants.{Accepted, Refused}
 use Rattle.decades.specs.Table.{rowsTo, rowCount, table, tabled}
 use Rattle.decades.specs.declared.Tabled.{Tabled}
 use Rattle.decades.specs.declared.Tabled.the-variants.{Rows, Refused as Declined}
 use Rattle.decades.proofs.Count.{rows-at-most}
-use Rattle.decades.proofs.Stores.{sets-more}
+use Rattle.season.proofs.Stores.{at-start}
 use Rattle.decades.proofs.Rows.{length-flat}
 use Rattle.decades.proofs.Answers.{rows-refused, tabled-whole}
 use Rattle.sheet.specs.Sheets.{sheetOf}
@@ -20,12 +20,6 @@ use Rattle.sheet.proofs.Accepted.{accepted-season}
 use Rattle.controller.specs.Calls.{onSheet, sheetTabled}
 use Rattle.controller.proofs.Sheets.{sheet-refused, sheet-accepted}
 use Rattle.printed.specs.Text.{cell, cells, printed, printedTo}
-
--- A text at the start of a buffer.
-pub at-start : (text l : List ℕ) → length text ≤ length l → sets l 0 text ≡ text ++ drop (length text) l
-at-start text l h =
-    let e : 0 + length text ≡ length text = omega arith in
-    sets-eq text l 0 (omega arith) ∙ ap (λ (k : ℕ). text ++ drop k l) e
 
 module _ (b out : List ℕ) (long : length out ≡ 174) where
   accepted : (v : sheetOf b .verdict ≡ Accepted) → sheetTabled b out ≡ (Rows (rowCount (sheetOf b .season)), table (sheetOf b .season) ++ drop (rowCount (sheetOf b .season) * 6) out)
@@ -82,8 +76,3 @@ stored b t text l r long p h e s =
     let f : l ≡ t ++ drop (length t) text = s ∙ at-start t text h in
     let n : length l ≡ length text = ap length s ∙ length-sets text 0 t in
     (rw (le-ltb (length text) 4096 long, e, f, p) refl, (omega arith, sym (length-take-le r l (omega arith))))
-
--- One text after another.
-pub joined : (x y text l m : List ℕ) (r q : ℕ) → r ≡ 0 + length x → l ≡ sets text 0 x → q ≡ r + length y → m ≡ sets l r y
-    → (q ≡ length (x ++ y)) × (m ≡ sets text 0 (x ++ y))
-joined x y text l m r q e f g h = (omega (arith, length-append x y), h ∙ rw (f, e) (sets-more text 0 x y))

@@ -1,5 +1,6 @@
 pub mod Each
 pub mod Whole
+pub mod Stores
 pub mod Laws
 pub mod Reciprocal
 pub mod Raised

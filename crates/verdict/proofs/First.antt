@@ -38,6 +38,13 @@ pub accepted-fails : (t : Bool) (n v : ℕ) (rs : List (Bool × ℕ × ℕ)) →
 accepted-fails true n v rs e = absurd (refused-accepted n v (sym (first-holds true n v rs refl) ∙ e))
 accepted-fails false n v rs e = (refl, sym (first-fails false n v rs refl) ∙ e)
 
+-- Where a step accepts, the verdict before it did, and its test fails.
+pub or-accepted : (v : Verdict) (t : Bool) (number value : ℕ) → orRefused v t number value ≡ Accepted → (v ≡ Accepted) × (t ≡ false)
+unfolding orRefused
+or-accepted Accepted true number value e = absurd (refused-accepted number value e)
+or-accepted Accepted false number value e = (refl, refl)
+or-accepted (Refused n w) t number value e = absurd (refused-accepted n w e)
+
 -- What holds of every line's number and value holds of the refusal that they give.
 abbrev pub Refusal : (ℕ → ℕ → Type 0) → Verdict → Type 0
 Refusal P Accepted = Unit {0}

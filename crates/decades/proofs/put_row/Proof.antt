@@ -3,7 +3,7 @@ use Prim.Native.Nat.{_-_}
 use mathlib.Core.Path.{refl, _∙_}
 use native.Mathlib.Omega.{arith}
 use Rattle.decades.specs.Table.{six}
-use Rattle.decades.proofs.Stores.{Putting, putting-length, putting-place, putting-more, putting-end}
+use Rattle.season.proofs.Stores.{Putting, putting-length, putting-place, putting-more, putting-end}
 use borrow.Author.Needs.{needs}
 use Rattle.decades.proofs.put_row.Statement.{statement}
 use Rattle.decades.proofs.put_row.Tie as tie

@@ -3,7 +3,7 @@
 use borrow.Author.Needs.{needs}
 use native.Mathlib.Omega.{arith}
 use Rattle.leb128.specs.Forms.{groupsOf}
-use Rattle.leb128.proofs.Splits.{Split, none-split, mark-is, split-few, split-more, split-last}
+use Rattle.leb128.proofs.Splits.{Split, none-split, mark-is, left-few, split-more, split-last}
 use Rattle.leb128.proofs.split.Statement.{statement}
 use Rattle.leb128.proofs.split.Tie as tie
 
@@ -20,16 +20,16 @@ cast-bytes : tie.Need-cast-bytes Inv-loop μ-loop
 cast-bytes c = omega (arith, mark-is (c .before .loop .rest))
 
 array-write-bytes : tie.Need-array-write-bytes Inv-loop μ-loop
-array-write-bytes c = split-few (c .before .before .before .fits .n .fits) (c .before .loop .inv)
+array-write-bytes c = left-few (c .before .loop .inv .left) (c .before .before .before .fits .n .fits)
 
 add-i : tie.Need-add-i Inv-loop μ-loop
-add-i c = omega (arith, split-few (c .before .before .before .fits .n .fits) (c .before .loop .inv))
+add-i c = omega (arith, left-few (c .before .loop .inv .left) (c .before .before .before .fits .n .fits))
 
 loop-again : tie.Need-loop-again Inv-loop μ-loop
 loop-again c = split-more (c .before .before .before .fits .n .fits) (c .before .loop .inv) (c .loop-test .taken)
 
 array-write-bytes-2 : tie.Need-array-write-bytes-2 Inv-loop μ-loop
-array-write-bytes-2 c = split-few (c .before .before .before .fits .n .fits) (c .before .loop .inv)
+array-write-bytes-2 c = left-few (c .before .loop .inv .left) (c .before .before .before .fits .n .fits)
 
 returns : tie.Need-returns Inv-loop μ-loop
 unfolding groupsOf

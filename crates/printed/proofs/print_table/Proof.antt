@@ -6,9 +6,10 @@ use native.Mathlib.Omega.{arith}
 use lib.ListN.{replicate, length-append}
 use denote.Ref.{now}
 use Rattle.decades.specs.declared.Tabled.{Tabled}
+use Rattle.season.proofs.Stores.{run-behind}
 use Rattle.printed.specs.Text.{cell}
 use Rattle.printed.proofs.Texts.{cell-of-word}
-use Rattle.printed.proofs.Answers.{As-rows, rows-printed, refusal-printed, too-short, joined, stored}
+use Rattle.printed.proofs.Answers.{As-rows, rows-printed, refusal-printed, too-short, stored}
 use borrow.Author.Needs.{needs}
 use Rattle.printed.proofs.print_table.Statement.{statement}
 use Rattle.printed.proofs.print_table.Tie as tie
@@ -80,7 +81,7 @@ returns-3 c =
     let h : at-number .number .given .0 .1 .0 < 2 ^ 64 = omega arith in
     let x = cell (at-number .number .given .0 .0) 32 in
     let y = cell (at-number .number .given .0 .1 .0) 10 in
-    let two = joined x y (now (start .args .text)) _ _ _ _ (at-put-cell .put-cell .ensures .0) (at-put-cell .put-cell .ensures .1) (at-put-cell2 .put-cell2 .ensures .0) (at-put-cell2 .put-cell2 .ensures .1) in
+    let two = run-behind x y (now (start .args .text)) _ _ _ _ (at-put-cell .put-cell .ensures .0) (at-put-cell .put-cell .ensures .1) (at-put-cell2 .put-cell2 .ensures .0) (at-put-cell2 .put-cell2 .ensures .1) in
     stored (now (start .args .sheet)) (x ++ y) (now (start .args .text)) _ _ (at-if1 .if1 .left)
     (refusal-printed (now (start .args .sheet)) (replicate 174 0) refl _ _ (at-table .table .last .1 .0)
     (ap (λ (r : Tabled). (r, at-table .table .last .1 .0)) (sym (at-number .number .given .1)) ∙ at-table .table .ensures))
