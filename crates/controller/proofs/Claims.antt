@@ -116,14 +116,18 @@ claims = record {
       sheet-verdict planVerdict (λ number value. (planned.Refused number value, out)) (λ s. plannedOn s out (opening s area)) sheet (planLines area (length out)) numbers-refused (λ s o. plan-verdict s area out);
   table-refuses = λ sheet out.
       sheet-verdict tableVerdict (λ number value. (table.Refused number value, out)) (λ s. tabled s out) sheet (tableLines (length out)) numbers-refused (λ s o. table-verdict s out);
+  write-refuses = sheets.claims .write-refuses;
   entry-no-stores = entry-no-stores;
   mend-no-stores = mend-no-stores;
   plan-unaltered = plan-unaltered;
   table-unaltered = table-unaltered;
+  write-unaltered = sheets.claims .write-unaltered;
   plan-right = λ sheet area out l v o day room. plan-right sheet v area out l (sym (opens sheet v area) ∙ o) day room;
   planning = plans.claims;
   sheet-as-written = sheets.claims .accepted-as-written;
   written-as-sheet = sheets.claims .written-accepted;
+  write-read = sheets.claims .write-read;
+  read-write = sheets.claims .read-write;
   entries = journals.claims;
   opening-says = λ sheet area v h. subst⁻¹ (Opens (sheetOf sheet .season) area) (opens sheet v area) (journals.claims .opening-says (sheetOf sheet .season) area h);
   opening-occurs = opening-occurs;

@@ -1,5 +1,5 @@
--- The seven calls on bytes. Refusals 1 to 7 concern every call: a call gives the first of them that applies, and else what it answers of the
--- sheet's season.
+-- The calls on bytes. Refusals 1 to 7 concern every call that is given a sheet: it gives the first of them that applies, and else what it answers
+-- of the sheet's season. The eighth call, write, is given numbers: `sheetWritten` of sheet's specs/Writing.antt.
 use Prim.Native.Nat.{ℕ}
 use mathlib.Core.Bool.{cond}
 use mathlib.Core.List.{List}

@@ -1,15 +1,18 @@
 -- What is proved of the calls, gathered: `claims`, in proofs/Claims.antt, has a proof of each field. The lower crates' claims stand in their own `Claims`.
 use mathlib.Core.Path.{_≡_}
-use mathlib.Core.List.{List, map}
+use mathlib.Core.List.{List, _++_, map}
 use Prim.Native.Nat.{ℕ, _≤_}
-use lib.ListN.{length}
+use lib.ListN.{length, take, drop}
 use Rattle.verdict.specs.declared.Verdict.the-variants.{Accepted, Refused}
 use Rattle.verdict.specs.Refusals.{firstOf, verdictOf}
 use Rattle.season.specs.Sheet.{seasonDays}
 use Rattle.leb128.specs.Claims.{Bytes}
-use Rattle.sheet.specs.Numbers.{numbersRead, written}
+use Rattle.sheet.specs.declared.Written.the-variants as writer
+use Rattle.sheet.specs.declared.Written.the-variants.{Made}
+use Rattle.sheet.specs.Numbers.{numbersAre, numbersRead, written}
 use Rattle.sheet.specs.Fields.{seasonOf}
-use Rattle.sheet.specs.Sheets.{fieldsVerdict, sheetOf}
+use Rattle.sheet.specs.Sheets.{fieldsVerdict, sheetIs, sheetOf}
+use Rattle.sheet.specs.Writing.{writeLines, sheetWritten, writeVerdict, fieldsOf}
 use Rattle.journal.specs.declared.Entry.{Entry}
 use Rattle.journal.specs.declared.Ledger.{Ledger}
 use Rattle.journal.specs.declared.Opening.the-variants.{Clean}
@@ -39,6 +42,7 @@ pub record Claims : Type 0 where
   pub plan-refuses : (sheet area out : List ℕ)
       → verdictOf (planned.numbersOf (sheetPlanned sheet area out .0)) ≡ firstOf Accepted (onLines sheet (planLines area (length out)))
   pub table-refuses : (sheet out : List ℕ) → verdictOf (tabled.numbersOf (sheetTabled sheet out .0)) ≡ firstOf Accepted (onLines sheet (tableLines (length out)))
+  pub write-refuses : (vs out : List ℕ) → writeVerdict (sheetWritten vs out .0) ≡ firstOf Accepted (writeLines vs (length out))
   -- and a refused call has no stores and leaves every lent buffer as it was.
   pub entry-no-stores : (sheet area : List ℕ) (e : Entry) (number value : ℕ) → sheetRecorded sheet area e .verdict ≡ Refused number value
       → sheetRecorded sheet area e ≡ recordedWith (Refused number value) noStores
@@ -48,17 +52,24 @@ pub record Claims : Type 0 where
       → sheetPlanned sheet area out .1 ≡ out
   pub table-unaltered : (sheet out : List ℕ) (number value : ℕ) → verdictOf (tabled.numbersOf (sheetTabled sheet out .0)) ≡ Refused number value
       → sheetTabled sheet out .1 ≡ out
+  pub write-unaltered : (vs out : List ℕ) (number value : ℕ) → sheetWritten vs out .0 ≡ writer.Refused number value → sheetWritten vs out .1 ≡ out
   -- What demand 3 says of a plan holds on every area that opens clean with an open day, however it came about.
   pub plan-right : (sheet area out : List ℕ) (l : Ledger) → sheetOf sheet .verdict ≡ Accepted → sheetOpened sheet area ≡ Clean l
       → l .day ≤ seasonDays (sheetOf sheet .season) → daysLeft (sheetOf sheet .season) (l .day) ≤ length out
       → PlanKept (sheetOf sheet .season) l out (sheetPlanned sheet area out)
   -- The planner's claims, whole: of any outlook, a plan is refused exactly when no choice holds, and a plan made is the best.
   pub planning : planner.Claims
-  -- Demand 2: an accepted sheet and its forty fields match one to one,
+  -- Demand 2: an accepted sheet and its forty fields match one to one.
   pub sheet-as-written : (sheet : List ℕ) → Bytes sheet → sheetOf sheet .verdict ≡ Accepted → sheet ≡ written (numbersRead sheet .fields)
   pub written-as-sheet : (vs : List ℕ) → length vs ≡ 40 → fieldsVerdict vs ≡ Accepted
       → sheetOf (written vs) ≡ record { season = seasonOf vs; verdict = Accepted }
-  -- and so do entries and their bytes: `bytes-read`, `read-stands` and `bytes-one-to-one` of the journal's claims.
+  -- What the writer makes is read as those forty numbers,
+  pub write-read : (vs out : List ℕ) (k : ℕ) → length vs ≡ 40 → sheetWritten vs out .0 ≡ Made k
+      → (numbersRead (take k (sheetWritten vs out .1)) ≡ numbersAre vs Accepted) × (sheetOf (take k (sheetWritten vs out .1)) ≡ sheetIs (seasonOf vs) Accepted)
+  -- and a sheet that the reader accepts is what the writer makes of its fields.
+  pub read-write : (sheet out : List ℕ) → Bytes sheet → sheetOf sheet .verdict ≡ Accepted → length sheet ≤ length out
+      → sheetWritten (fieldsOf (sheetOf sheet .season)) out ≡ (Made (length sheet), sheet ++ drop (length sheet) out)
+  -- Entries and their bytes match one to one too: `bytes-read`, `read-stands` and `bytes-one-to-one` of the journal's claims.
   pub entries : journal.Claims
   -- Opening finds clean, torn and damaged in document 01's words, behind the longest run of whole entries that would each have been accepted.
   pub opening-says : (sheet area : List ℕ) → sheetOf sheet .verdict ≡ Accepted → length area ≤ 8192 → Opens (sheetOf sheet .season) area (sheetOpened sheet area)

@@ -1,5 +1,5 @@
 -- Document 01, 'Why the controller says no': each call's refusals, read downward. A line is a test, the number, the number returned with it. What a call
--- answers is held against the first line that applies by its numbering (`verdictOf` of its numbers).
+-- answers is held against the first line that applies by its numbering (`verdictOf` of its numbers). Write's are `writeLines` of sheet's specs/Writing.antt.
 use Prim.Native.Nat.{ℕ, _*_}
 use mathlib.Core.Bool.{Bool, true, false}
 use mathlib.Core.List.{List, [], _∷_, _++_}
@@ -22,7 +22,7 @@ use Rattle.decades.specs.Table.{rowCount}
 abbrev pub Line : Type 0
 Line = Bool × ℕ × ℕ
 
--- ---- 1 to 7, for every call
+-- ---- 1 to 7, for every call that is given a sheet
 
 -- The sheet's own lines, then the call's.
 abbrev pub onLines : List ℕ → (Season → List Line) → List Line

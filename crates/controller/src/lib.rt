@@ -1,4 +1,4 @@
-// The calls that firmware makes (document 01), on the sheet's bytes, the journal's area and lent buffers. Each gives the first refusal that applies,
+// The calls that firmware and the tablet make (documents 01 and 02), on the sheet's bytes, the journal's area and lent buffers. Each gives the first refusal that applies,
 // with document 01's number. Nothing here stores to the area: the stores are handed back, and the firmware does them in the order given.
 use decades::Tabled;
 use journal::Entry;
@@ -8,12 +8,14 @@ use journal::Recorded;
 use journal::Source;
 use planner::Planned;
 use season::Season;
+use sheet::Written;
 use verdict::Verdict;
 ghost use mathlib.Core.Path.{_≡_};
 ghost use Rattle.season.specs.Day.{AcceptedSeason};
 ghost use Rattle.journal.specs.declared.Entry.the-variants.{Water, Close};
 ghost use Rattle.journal.specs.declared.Source.the-variants.{Rain, Irrigation};
 ghost use Rattle.journal.specs.Opening.{opening};
+ghost use Rattle.sheet.specs.Writing.{sheetWritten};
 ghost use Rattle.controller.specs.Calls.{sheetOpened, sheetRecorded, sheetMended, plannedOn, sheetPlanned, sheetTabled};
 
 // What the journal holds: clean or torn with its ledger, or a refusal. Refusals 1 to 9.
@@ -123,4 +125,11 @@ pub fn table(sheet: &[u8], rows: &mut [u32]) -> Tabled
         Verdict::Refused(number, value) => Tabled::Refused(number, value),
         Verdict::Accepted => decades::table(season, rows),
     }
+}
+
+// The sheet of forty numbers, from the start of a lent buffer; bytes beyond it stay. Refusals 4 to 7, and 15.
+pub fn write(fields: [u32; 40], sheet: &mut [u8]) -> Written
+    ensures { λ r. ⌜ (r, now (sheet .exit)) ≡ sheetWritten fields (now (sheet .entry)) ⌝ }
+{
+    sheet::write(fields, sheet)
 }

@@ -16,7 +16,7 @@ use Rattle.season.proofs.Each.{all-le}
 use Rattle.sheet.specs.declared.Limit.{Limit}
 use Rattle.sheet.specs.Numbers.{numbersRead, written}
 use Rattle.sheet.specs.Fields.{limits, lowestOutside, seasonOf}
-use Rattle.sheet.specs.Sheets.{fieldAtFault, sheetOf}
+use Rattle.sheet.specs.Sheets.{fieldAtFault, fieldsVerdict, sheetOf}
 use Rattle.sheet.proofs.Ranges.{inside, none-outside}
 use Rattle.sheet.proofs.Verdicts.{accepted-sound}
 use Rattle.sheet.proofs.Accepted.{is-accepted}
@@ -92,10 +92,13 @@ written-at-most (a ∷ b ∷ c ∷ d ∷ g ∷ h ∷ rest) n e y =
       behind,
     )
 
+-- Forty numbers that refusals 4 to 7 leave.
+pub written-length : (f : List ℕ) → length f ≡ 40 → fieldsVerdict f ≡ Accepted → (40 ≤ length (written f)) × (length (written f) ≤ 86)
+written-length f n a =
+    let s = accepted-sound f n a in
+    (omega (arith, written-at-least f), written-at-most f n (s .no-field) (s .season .valid .year))
+
 pub accepted-length : (b : List ℕ) → Bytes b → sheetOf b .verdict ≡ Accepted → (40 ≤ length b) × (length b ≤ 86)
 accepted-length b bytes e =
     let a = is-accepted b e in
-    let f = numbersRead b .fields in
-    let s = accepted-sound f (a .count) (a .verdict) in
-    let l : length b ≡ length (written f) = ap (λ (t : List ℕ). length t) (a .as-written bytes) in
-    (omega (arith, l, written-at-least f, a .count), omega (arith, l, written-at-most f (a .count) (s .no-field) (s .season .valid .year)))
+    rw (a .as-written bytes) (written-length (numbersRead b .fields) (a .count) (a .verdict))

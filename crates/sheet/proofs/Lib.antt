@@ -2,10 +2,12 @@ pub mod Runs
 pub mod Lowest
 pub mod Ranges
 pub mod Verdicts
-pub mod Written
+pub mod ReadBack
 pub mod Accepted
 pub mod Lengths
 pub mod Start
 pub mod Numbered
 pub mod Refusing
+pub mod Writing
+pub mod Answers
 pub mod Claims

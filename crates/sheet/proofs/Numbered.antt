@@ -1,4 +1,4 @@
--- A sheet's refusal is one of 1 to 7. Forty numbers of at most three bytes: a sheet's faults lie in its first 120, and one that ends too soon is
+-- A sheet's refusal is one of 1 to 7, and what it carries is small, as is what the writer's carries. Forty numbers of at most three bytes: a sheet's faults lie in its first 120, and one that ends too soon is
 -- shorter than that, so refusal 1's length is small though a sheet may be long.
 use mathlib.Core.Path.{_≡_}
 use mathlib.Core.Bool.{Bool, true, false, cond}
@@ -8,9 +8,11 @@ use native.Mathlib.Omega.{arith}
 use lib.Dec.{ltb}
 use lib.ListN.{length, getD}
 use Rattle.verdict.specs.declared.Verdict.the-variants.{Accepted, Refused}
+use Rattle.verdict.specs.Refusals.{firstOf}
 use Rattle.verdict.proofs.First.{Refusal, first-refusal}
 use Rattle.sheet.specs.Numbers.{Run, run, stop, numbers, Numbers, none, ended, numbersRead}
 use Rattle.sheet.specs.Sheets.{fieldLines, sheetOf}
+use Rattle.sheet.specs.Writing.{writeLines}
 use Rattle.sheet.specs.Fields.{limits, outside, lowestOutside}
 use Rattle.sheet.proofs.Start.{Ends, numbers-end}
 use Rattle.sheet.proofs.Refusing.{judged-verdict}
@@ -51,3 +53,9 @@ sheet-is b =
 
 pub refused-is : (b : List ℕ) (number value : ℕ) → sheetOf b .verdict ≡ Refused number value → OfSheet number value
 refused-is b number value e = rw e at (sheet-is b)
+
+-- The writer's refusals carry a field or 0.
+pub write-refused-is : (f : List ℕ) (room number value : ℕ) → firstOf Accepted (writeLines f room) ≡ Refused number value → value ≤ 120
+write-refused-is f room number value e =
+    rw e at (first-refusal (λ n v. v ≤ 120) Accepted (writeLines f room) tt
+    (omega (arith, lowest-end 1 (limits (getD f 0 0)) f), (omega arith, (omega arith, (omega arith, (omega arith, tt))))))

@@ -1,4 +1,4 @@
-// The season sheet (document 01): forty numbers one after another, their ranges, and refusals 1 to 7.
+// The season sheet (document 01): forty numbers one after another, their ranges, and refusals 1 to 7; and the writer (document 02, T-02).
 use leb128::Number;
 use season::Season;
 use verdict::Verdict;
@@ -7,9 +7,12 @@ ghost use mathlib.Core.Path.{_≡_};
 ghost use mathlib.Core.List.{[], _∷_, map};
 ghost use lib.Dec.{ltb};
 ghost use lib.ListN.{length, getD};
-ghost use Rattle.sheet.specs.Numbers.{numbersAre, none, numbersRead};
+ghost use lib.Seq.{sets};
+ghost use Rattle.leb128.specs.Groups.{encode};
+ghost use Rattle.sheet.specs.Numbers.{numbersAre, none, numbersRead, written};
 ghost use Rattle.sheet.specs.Fields.{limits, outside, seasonOf};
 ghost use Rattle.sheet.specs.Sheets.{fieldAtFault, fieldsVerdict, sheetIs, sheetOf};
+ghost use Rattle.sheet.specs.Writing.{sheetWritten};
 ghost use Rattle.season.specs.Calendar.{monthDays};
 
 // A sheet's season, all 0 where the sheet is refused.
@@ -17,6 +20,15 @@ pub struct Sheet {
     pub season: Season,
     pub verdict: Verdict,
 }
+
+// What the writer answers: how many bytes the sheet has, or a refusal.
+pub enum Written {
+    Made(usize),
+    Refused(u32, usize),
+}
+
+// Bytes that every sheet fits in.
+pub const MOST_BYTES: usize = 86;
 
 // The lowest and the highest number of a field.
 struct Limit(u32, u32);
@@ -252,4 +264,58 @@ pub fn read(sheet: &[u8]) -> Sheet
     let verdict = read_fields(sheet, &mut fields);
     let season = season_of(&fields);
     Sheet { season, verdict }
+}
+
+// ---- the writer
+
+// Puts a number's bytes into a buffer from a place on; the place after them.
+fn put_number(bytes: &mut [u8], at: usize, n: u32) -> usize
+    requires { ⌜ at + length (encode n) ≤ length (now bytes) ⌝ }
+    ensures { λ r. ⌜ (r ≡ at + length (encode n)) × (now (bytes .exit) ≡ sets (now (bytes .entry)) at (encode n)) ⌝ }
+{
+    let mut rest = n;
+    let mut i = at;
+    while rest >= 0x80 {
+        let next = i + 1;
+        bytes[i] = ((rest & 0x7f) | 0x80) as u8;
+        rest = rest >> 7;
+        i = next;
+    }
+    bytes[i] = rest as u8;
+    i + 1
+}
+
+// Puts numbers one after another into a buffer, from its start; how many bytes they take.
+fn put_numbers(bytes: &mut [u8], numbers: &[u32]) -> usize
+    requires { ⌜ length (written (now numbers)) ≤ length (now bytes) ⌝ }
+    ensures { λ r. ⌜ (r ≡ length (written (now (numbers .entry)))) × (now (bytes .exit) ≡ sets (now (bytes .entry)) 0 (written (now (numbers .entry)))) ⌝ }
+{
+    let mut at: usize = 0;
+    let mut k: usize = 0;
+    while k < numbers.len() {
+        at = put_number(bytes, at, numbers[k]);
+        k += 1;
+    }
+    at
+}
+
+// The sheet of forty numbers, from the start of a lent buffer; bytes beyond it stay. Refusals 4 to 7, and 15, before a byte is stored there: a
+// buffer that every sheet fits in is written in place, and for any other the bytes are made in an array first.
+pub fn write(fields: [u32; 40], sheet: &mut [u8]) -> Written
+    ensures { λ r. ⌜ (r, now (sheet .exit)) ≡ sheetWritten fields (now (sheet .entry)) ⌝ }
+{
+    match judge(&fields) {
+        Verdict::Refused(number, value) => return Written::Refused(number, value),
+        Verdict::Accepted => {}
+    }
+    if MOST_BYTES <= sheet.len() {
+        return Written::Made(put_numbers(sheet, &fields));
+    }
+    let mut made = [0u8; MOST_BYTES];
+    let count = put_numbers(&mut made, &fields);
+    if sheet.len() < count {
+        return Written::Refused(15, 0);
+    }
+    bytes::copy(&made[..count], sheet);
+    Written::Made(count)
 }
