@@ -1,4 +1,4 @@
-/* Balladsky: the block water controller of document 01, seven calls on bytes. C99 and C++.
+/* Balladsky: the block water controller of documents 01 and 02, eight calls on bytes. C99 and C++.
  *
  * Link target/staticlib/libexports.a (made by `rt staticlib exports`, x86-64 Linux). It needs memcpy and memset, and
  * nothing else. Every call is proved to meet a contract that fixes each number it writes; crates/exports/src/lib.rt
@@ -9,18 +9,22 @@
  *   area, area_length    The journal, read only: no call writes to it. Any bytes, any length; blank is every byte FF.
  *   amount               Points, hundredths of a millimetre. Any number.
  *   depths, rows         A buffer that you lend, with how many numbers it has. Too few is refusal 15.
- *   out                  An array of BALLADSKY_OUT numbers that you lend. This is the one thing that no call can test.
+ *   fields               An array of BALLADSKY_FIELDS numbers, read only. Any numbers.
+ *   out                  An array of BALLADSKY_OUT numbers that you lend.
+ * The lengths of `fields` and `out` are what no call can test. To write, `sheet` is a buffer of bytes that you lend:
+ * too few is refusal 15.
  * No pointer may be null, even where its length is 0, and each must point to as many elements as its length says.
- * Buffers of 32-bit numbers are aligned as uint32_t. `out`, `depths` and `rows` must not overlap anything else that is
- * passed. Nothing is kept after the call returns, so what is lent need live no longer than the call.
+ * Buffers of 32-bit numbers are aligned as uint32_t. `out`, `depths`, `rows` and the sheet that is written must not
+ * overlap anything else that is passed. Nothing is kept after the call returns, so what is lent need live no longer
+ * than the call.
  *
  * WHAT IS WRITTEN
  *   out[0]  BALLADSKY_ACCEPTED (0; from open: clean), BALLADSKY_TORN (10) from open, or the refusal's number. 10 from
  *           open is a finding and no refusal: the ledger comes with it. From any other call it is a refusal.
  *   out[1]  The number returned with it; where open finds the journal torn, the place. Else 0.
  *   out[2]  and on: the answer, as each call says. Only where accepted, and by open where clean or torn.
- * Numbers of out beyond the answer, and of a lent buffer beyond the depths or rows, keep what they held. A refusal
- * writes out[0] and out[1], and no lent buffer.
+ * Numbers of out beyond the answer, and what a lent buffer has beyond the depths, rows or bytes, stay as they were. A
+ * refusal writes out[0] and out[1], and no lent buffer.
  *
  * STORES: you do them, one byte at a time, each whole or not at all.
  *   rain, irrigation, close: the bytes out[4], out[5].. at the places out[2], out[2] + 1.., out[3] of them, lowest
@@ -53,6 +57,8 @@ extern "C" {
 #define BALLADSKY_AREA 8192  /* bytes of the longest area */
 #define BALLADSKY_DEPTHS 275 /* numbers that every plan fits in */
 #define BALLADSKY_ROWS 174   /* numbers that every table fits in: 29 rows of six */
+#define BALLADSKY_SHEET 86   /* bytes that every sheet fits in */
+#define BALLADSKY_FIELDS 40  /* numbers of a sheet */
 
 /* What out[0] says. A refusal is the first that applies, read downward, of those that the call gives. In brackets what
  * out[1] then is; else it is 0. None passes 8,192.
@@ -60,7 +66,8 @@ extern "C" {
  * Of 1 and 2 it is whichever comes first in the bytes: a sheet of the two bytes 80 00 is refused 2 with place 1, though
  * 1 applies too.
  * 15 is given by the plan, after 11 and before 16, where depths has fewer numbers than there are days from the open day
- * to the season's last; by the table, after 7, where rows has fewer than six numbers a row. */
+ * to the season's last; by the table, after 7, where rows has fewer than six numbers a row; by write, after 7, where
+ * the buffer has fewer bytes than the sheet. */
 enum {
     BALLADSKY_ACCEPTED = 0,             /* accepted; open: the journal is clean */
     BALLADSKY_SHEET_ENDS = 1,           /* the sheet ends before its fortieth number is whole [the sheet's length] */
@@ -79,7 +86,7 @@ enum {
     BALLADSKY_AMOUNT_OUT_OF_RANGE = 12, /* the amount is outside 1 to 120,000 */
     BALLADSKY_DAY_OVERFULL = 13,        /* the day's water would pass 240,000 */
     BALLADSKY_AREA_FULL = 14,           /* the entry does not fit in the area */
-    BALLADSKY_BUFFER_TOO_SHORT = 15,    /* the lent buffer has too few numbers */
+    BALLADSKY_BUFFER_TOO_SHORT = 15,    /* the lent buffer has too few numbers or bytes */
     BALLADSKY_NO_CHOICE = 16            /* no choice of depths holds [the first day that none holds] */
 };
 
@@ -113,6 +120,11 @@ void balladsky_plan(const uint8_t *sheet, size_t sheet_length, const uint8_t *ar
 /* The decade table. Accepted: rows holds six numbers a row: month, decade, need, planned rain, net, gross; out[2] how
  * many rows. Refusals 1 to 7, and 15. */
 void balladsky_table(const uint8_t *sheet, size_t sheet_length, uint32_t *rows, size_t rows_length, uint32_t *out);
+
+/* Writes a sheet: fields are its forty numbers, field 1 first. Accepted: the buffer begins with the sheet's bytes;
+ * out[2] how many they are, which is sheet_length for the other calls. Refusals 4 to 7 as the other calls give them,
+ * and 15. */
+void balladsky_write(const uint32_t *fields, uint8_t *sheet, size_t sheet_length, uint32_t *out);
 
 #ifdef __cplusplus
 }

@@ -1,6 +1,6 @@
 -- No place, count or number returned with a refusal passes 8,192.
 use Prim.Native.Nat.{ℕ, zero, suc, _+_, _*_, _≤_}
-use mathlib.Core.Path.{_≡_, refl, ap}
+use mathlib.Core.Path.{_≡_, refl, sym, ap, _∙_}
 use mathlib.Core.Bool.{Bool, true, false, cond}
 use mathlib.Core.List.{List, [], _∷_, _++_}
 use native.Mathlib.Omega.{arith}
@@ -12,7 +12,11 @@ use Rattle.season.specs.Day.{AcceptedSeason}
 use Rattle.verdict.specs.declared.Verdict.{Verdict}
 use Rattle.verdict.specs.declared.Verdict.the-variants.{Accepted, Refused}
 use Rattle.verdict.proofs.First.{Refusal, first-refusal}
-use Rattle.sheet.proofs.Numbered.{refused-is}
+use Rattle.sheet.proofs.Numbered.{refused-is, write-refused-is}
+use Rattle.sheet.proofs.Claims as sheets
+use Rattle.sheet.specs.declared.Written.{Written}
+use Rattle.sheet.specs.declared.Written.the-variants as writer
+use Rattle.sheet.specs.Writing.{sheetWritten, writeVerdict}
 use Rattle.sheet.specs.Sheets.{sheetOf}
 use Rattle.season.specs.Sheet.{seasonDays, longestSeason}
 use Rattle.journal.specs.declared.Entry.{Entry}
@@ -40,7 +44,7 @@ use Rattle.controller.specs.Calls.{plannedOn, sheetOpened, sheetRecorded, sheet
 use Rattle.controller.proofs.Sheets.{on-sheet}
 use Rattle.controller.proofs.Refusing.{opening-by}
 use Rattle.controller.proofs.Claims.{claims}
-use Rattle.exports.specs.Small.{SmallVerdict, SmallOpening, SmallRecorded, SmallMended, SmallPlanned, SmallTabled}
+use Rattle.exports.specs.Small.{SmallVerdict, SmallOpening, SmallRecorded, SmallMended, SmallPlanned, SmallTabled, SmallWritten}
 
 -- ---- the sheet
 
@@ -204,3 +208,13 @@ tabled-small sheet out =
     on-sheet (λ number value. (table.Refused number value, out)) (λ s. tabled s out) sheet (λ (a : Tabled × List ℕ). SmallTabled (a .0))
     (λ number value v. refused-small sheet number value v)
     (λ s v q o. rows-few s o out)
+
+-- ---- write
+
+pub written-small : (fields out : List ℕ) → length fields ≡ 40 → SmallWritten (sheetWritten fields out .0)
+written-small fields out n = go (sheetWritten fields out .0) refl
+  where
+    go : (w : Written) → sheetWritten fields out .0 ≡ w → SmallWritten w
+    go (writer.Made count) e = omega (arith, sheets.claims .write-length fields out count e n .1)
+    go (writer.Refused number value) e =
+        omega (arith, write-refused-is fields (length out) number value (sym (sheets.claims .write-refuses fields out) ∙ ap writeVerdict e))

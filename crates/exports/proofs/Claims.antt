@@ -1,10 +1,9 @@
 -- The claims, in the order of specs/Claims.antt.
-use Prim.Native.Nat.{ℕ, _+_, _-_, _≤_}
+use Prim.Native.Nat.{ℕ, _-_, _≤_}
 use mathlib.Core.Path.{_≡_, refl, sym, ap, _∙_}
 use mathlib.Core.List.{List, [], _∷_, _++_}
 use native.Mathlib.Omega.{arith}
 use lib.ListN.{length, drop, take, replicate}
-use lib.Seq.{sets-eq}
 use Rattle.verdict.specs.declared.Verdict.{Verdict}
 use Rattle.verdict.specs.declared.Verdict.the-variants.{Accepted, Refused}
 use Rattle.journal.specs.declared.Opening.{Opening}
@@ -20,17 +19,20 @@ use Rattle.planner.specs.Answer as planner
 use Rattle.decades.specs.declared.Tabled.{Tabled}
 use Rattle.decades.specs.declared.Tabled.the-variants as table
 use Rattle.decades.specs.Table as decades
+use Rattle.sheet.specs.declared.Written.{Written}
+use Rattle.sheet.specs.declared.Written.the-variants as made
+use Rattle.sheet.specs.Writing as writer
+use Rattle.sheet.specs.Writing.{sheetWritten}
+use Rattle.season.proofs.Stores.{at-start}
 use Rattle.controller.specs.Calls.{sheetOpened, sheetRecorded, sheetMended, sheetPlanned, sheetTabled}
 use Rattle.controller.proofs.Claims as controller
 use Rattle.verdict.specs.Refusals.{numbersThen}
 use Rattle.exports.specs.Written.{writtenOver, mendedOut}
 use Rattle.exports.specs.Claims.{Claims}
-use Rattle.exports.proofs.Bounds.{opened-small, recorded-small, mended-small, planned-small, tabled-small}
+use Rattle.exports.proofs.Bounds.{opened-small, recorded-small, mended-small, planned-small, tabled-small, written-small}
 
 over-first : (ns out : List ℕ) → length ns ≤ length out → writtenOver ns out ≡ ns ++ drop (length ns) out
-over-first ns out h =
-    let z : 0 + length ns ≡ length ns = omega arith in
-    sets-eq ns out 0 (omega arith) ∙ ap (λ (k : ℕ). ns ++ drop k out) z
+over-first ns out h = at-start ns out h
 
 -- ---- twelve numbers have room
 
@@ -46,6 +48,10 @@ planned-length (planned.Refused number value) = omega arith
 tabled-length : (t : Tabled) → length (decades.numbersOf t) ≤ 12
 tabled-length (table.Rows count) = omega arith
 tabled-length (table.Refused number value) = omega arith
+
+written-length : (w : Written) → length (writer.numbersOf w) ≤ 12
+written-length (made.Made count) = omega arith
+written-length (made.Refused number value) = omega arith
 
 stores-length : (v : Verdict) (w : Stores) → StoresOccur v w → length (numbersThen v (w .start ∷ w .count ∷ w .bytes)) ≤ 12
 stores-length Accepted w h = omega (arith, h .size)
@@ -104,11 +110,13 @@ claims = record {
   mended-fits = λ sheet area. places-length (sheetMended sheet area .verdict) (sheetMended sheet area) (controller.claims .mended-occurs sheet area .0);
   planned-fits = λ sheet area depths. planned-length (sheetPlanned sheet area depths .0);
   tabled-fits = λ sheet rows. tabled-length (sheetTabled sheet rows .0);
+  written-fits = λ fields sheet. written-length (sheetWritten fields sheet .0);
   opened-small = opened-small;
   recorded-small = recorded-small;
   mended-small = mended-small;
   planned-small = planned-small;
   tabled-small = tabled-small;
+  written-small = written-small;
   recorded-one-to-one = λ q r a b e. recorded-with-one (q .verdict) (r .verdict) (q .stores) (r .stores) a b e;
   mended-one-to-one = mended-one;
 }

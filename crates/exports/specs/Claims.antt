@@ -10,9 +10,11 @@ use Rattle.journal.specs.Opening as opened
 use Rattle.journal.specs.Claims.{RecordedOccurs, MendedOccurs}
 use Rattle.planner.specs.Answer as planner
 use Rattle.decades.specs.Table as decades
+use Rattle.sheet.specs.Writing as writer
+use Rattle.sheet.specs.Writing.{sheetWritten}
 use Rattle.controller.specs.Calls.{sheetOpened, sheetRecorded, sheetMended, sheetPlanned, sheetTabled}
 use Rattle.exports.specs.Written.{writtenOver, recordedOut, mendedOut}
-use Rattle.exports.specs.Small.{SmallOpening, SmallRecorded, SmallMended, SmallPlanned, SmallTabled}
+use Rattle.exports.specs.Small.{SmallOpening, SmallRecorded, SmallMended, SmallPlanned, SmallTabled, SmallWritten}
 
 pub record Claims : Type 0 where
   -- Numbers that an array has room for stand first in it, and what stood beyond them stays.
@@ -23,12 +25,14 @@ pub record Claims : Type 0 where
   pub mended-fits : (sheet area : List ℕ) → length (mendedOut (sheetMended sheet area)) ≤ 12
   pub planned-fits : (sheet area depths : List ℕ) → length (planner.numbersOf (sheetPlanned sheet area depths .0)) ≤ 12
   pub tabled-fits : (sheet rows : List ℕ) → length (decades.numbersOf (sheetTabled sheet rows .0)) ≤ 12
+  pub written-fits : (fields sheet : List ℕ) → length (writer.numbersOf (sheetWritten fields sheet .0)) ≤ 12
   -- No place, count or number returned with a refusal passes 8,192.
   pub opened-small : (sheet area : List ℕ) → SmallOpening (sheetOpened sheet area)
   pub recorded-small : (sheet area : List ℕ) (e : Entry) → SmallRecorded (sheetRecorded sheet area e)
   pub mended-small : (sheet area : List ℕ) → SmallMended (sheetMended sheet area)
   pub planned-small : (sheet area depths : List ℕ) → SmallPlanned (sheetPlanned sheet area depths .0)
   pub tabled-small : (sheet rows : List ℕ) → SmallTabled (sheetTabled sheet rows .0)
+  pub written-small : (fields sheet : List ℕ) → length fields ≡ 40 → SmallWritten (sheetWritten fields sheet .0)
   -- The numberings made here are one to one on the answers that occur.
   pub recorded-one-to-one : (q r : Recorded) → RecordedOccurs q → RecordedOccurs r → recordedOut q ≡ recordedOut r → q ≡ r
   pub mended-one-to-one : (q r : Mended) → MendedOccurs q → MendedOccurs r → mendedOut q ≡ mendedOut r → q ≡ r

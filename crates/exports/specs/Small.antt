@@ -11,6 +11,8 @@ use Rattle.planner.specs.declared.Planned.{Planned}
 use Rattle.planner.specs.declared.Planned.the-variants as planned
 use Rattle.decades.specs.declared.Tabled.{Tabled}
 use Rattle.decades.specs.declared.Tabled.the-variants as table
+use Rattle.sheet.specs.declared.Written.{Written}
+use Rattle.sheet.specs.declared.Written.the-variants as writer
 
 abbrev pub SmallVerdict : Verdict → Type 0
 SmallVerdict Accepted = Unit {0}
@@ -38,3 +40,7 @@ SmallPlanned (planned.Refused number value) = value ≤ 8192
 abbrev pub SmallTabled : Tabled → Type 0
 SmallTabled (table.Rows count) = count ≤ 8192
 SmallTabled (table.Refused number value) = value ≤ 8192
+
+abbrev pub SmallWritten : Written → Type 0
+SmallWritten (writer.Made count) = count ≤ 8192
+SmallWritten (writer.Refused number value) = value ≤ 8192

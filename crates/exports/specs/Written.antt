@@ -1,5 +1,5 @@
 -- The numbers that an exported call writes for C and Rust: document 01's number (0 accepted or clean, 10 torn, else the refusal), the number
--- returned with it, then the answer. An opening, a plan and a table have the numbering that stands beside them.
+-- returned with it, then the answer. An opening, a plan, a table and a sheet written have the numbering that stands beside them.
 use Prim.Native.Nat.{ℕ}
 use mathlib.Core.List.{List, _∷_}
 use lib.Seq.{sets}
@@ -10,6 +10,8 @@ use Rattle.planner.specs.declared.Planned.{Planned}
 use Rattle.planner.specs.Answer as planner
 use Rattle.decades.specs.declared.Tabled.{Tabled}
 use Rattle.decades.specs.Table as decades
+use Rattle.sheet.specs.declared.Written.{Written}
+use Rattle.sheet.specs.Writing as writer
 
 -- Numbers over the first numbers of an array; those beyond keep what they held.
 abbrev pub writtenOver : List ℕ → List ℕ → List ℕ
@@ -23,9 +25,12 @@ recordedOut r = numbersThen (r .verdict) (r .stores .start ∷ r .stores .count 
 abbrev pub mendedOut : Mended → List ℕ
 mendedOut r = numbersThen (r .verdict) (r .count ∷ r .places)
 
--- Plan and table: the array and the lent buffer, of the answer and the buffer that the controller gives.
+-- Plan, table and write: the array and the lent buffer, of the answer and the buffer that the controller gives.
 abbrev pub plannedOver : List ℕ → Planned × List ℕ → List ℕ × List ℕ
 plannedOver out a = (writtenOver (planner.numbersOf (a .0)) out, a .1)
 
 abbrev pub tabledOver : List ℕ → Tabled × List ℕ → List ℕ × List ℕ
 tabledOver out a = (writtenOver (decades.numbersOf (a .0)) out, a .1)
+
+abbrev pub sheetOver : List ℕ → Written × List ℕ → List ℕ × List ℕ
+sheetOver out a = (writtenOver (writer.numbersOf (a .0)) out, a .1)

@@ -6,6 +6,7 @@ use journal::Ledger;
 use journal::Opening;
 use journal::Source;
 use planner::Planned;
+use sheet::Written;
 use verdict::Verdict;
 ghost use mathlib.Core.Path.{_≡_};
 ghost use mathlib.Core.List.{[], _∷_};
@@ -16,8 +17,9 @@ ghost use Rattle.journal.specs.declared.Source.the-variants.{Rain, Irrigation};
 ghost use Rattle.journal.specs.Entries.{ledgerNumbers};
 ghost use Rattle.journal.specs.Opening as opened;
 ghost use Rattle.planner.specs.Answer.{numbersOf};
+ghost use Rattle.sheet.specs.Writing.{sheetWritten};
 ghost use Rattle.controller.specs.Calls.{sheetOpened, sheetRecorded, sheetMended, sheetPlanned, sheetTabled};
-ghost use Rattle.exports.specs.Written.{writtenOver, recordedOut, mendedOut, plannedOver, tabledOver};
+ghost use Rattle.exports.specs.Written.{writtenOver, recordedOut, mendedOut, plannedOver, tabledOver, sheetOver};
 ghost use Rattle.exports.specs.Small.{SmallPlanned};
 
 // ---- an answer's numbers
@@ -99,14 +101,14 @@ fn put_planned(out: &mut [u32; 12], p: Planned)
     }
 }
 
-// A table that is made: how many rows.
-fn put_rows(out: &mut [u32; 12], count: usize)
-    requires { ⌜ count ≤ 8192 ⌝ }
-    ensures { λ _. ⌜ now (out .exit) ≡ writtenOver (0 ∷ 0 ∷ count ∷ []) (now (out .entry)) ⌝ }
+// A table or a sheet that is made: how many rows or bytes.
+fn put_size(out: &mut [u32; 12], size: usize)
+    requires { ⌜ size ≤ 8192 ⌝ }
+    ensures { λ _. ⌜ now (out .exit) ≡ writtenOver (0 ∷ 0 ∷ size ∷ []) (now (out .entry)) ⌝ }
 {
     out[0] = 0;
     out[1] = 0;
-    out[2] = count as u32;
+    out[2] = size as u32;
 }
 
 // An entry call.
@@ -123,7 +125,17 @@ fn put_entry(sheet: &[u8], area: &[u8], e: Entry, out: &mut [u32; 12])
     }
 }
 
-// ---- the seven calls
+// The writer's answer, with the sheet in the lent buffer. (The numbers by value: an array tells its length, a reference to one does not.)
+fn put_sheet(fields: [u32; 40], sheet: &mut [u8], out: &mut [u32; 12])
+    ensures { λ _. ⌜ (now (out .exit), now (sheet .exit)) ≡ sheetOver (now (out .entry)) (sheetWritten fields (now (sheet .entry))) ⌝ }
+{
+    match controller::write(fields, sheet) {
+        Written::Made(count) => put_size(out, count),
+        Written::Refused(number, value) => put_refusal(out, number, value),
+    }
+}
+
+// ---- the eight calls
 
 // Clean or torn: open day, depletion, waiting rain, waiting irrigation, season rain, irrigation, use, percolation, place. Refusals 1 to 9.
 #[no_mangle]
@@ -189,7 +201,16 @@ pub extern "C" fn balladsky_table(sheet: &[u8], rows: &mut [u32], out: &mut [u32
     ensures { λ _. ⌜ (now (out .exit), now (rows .exit)) ≡ tabledOver (now (out .entry)) (sheetTabled (now (sheet .entry)) (now (rows .entry))) ⌝ }
 {
     match controller::table(sheet, rows) {
-        Tabled::Rows(count) => put_rows(out, count),
+        Tabled::Rows(count) => put_size(out, count),
         Tabled::Refused(number, value) => put_refusal(out, number, value),
     }
+}
+
+// Bytes; the sheet in the lent buffer. Refusals 4 to 7, and 15.
+#[no_mangle]
+pub extern "C" fn balladsky_write(fields: &[u32; 40], sheet: &mut [u8], out: &mut [u32; 12])
+    ensures { λ _. ⌜ (now (out .exit), now (sheet .exit)) ≡ sheetOver (now (out .entry)) (sheetWritten (now (fields .entry)) (now (sheet .entry))) ⌝ }
+{
+    let own = *fields;
+    put_sheet(own, sheet, out);
 }

@@ -1,4 +1,4 @@
-//! The seven calls of include/balladsky.h for Rust. The header says what each writes and what its names stand for; a
+//! The eight calls of include/balladsky.h for Rust. The header says what each writes and what its names stand for; a
 //! reference here has what the header asks of a pointer.
 
 /// What a call writes: document 01's number, the number returned with it, then the answer.
@@ -8,6 +8,8 @@ pub const OUT: usize = 12;
 pub const AREA: usize = 8192;
 pub const DEPTHS: usize = 275;
 pub const ROWS: usize = 174;
+pub const SHEET: usize = 86;
+pub const FIELDS: usize = 40;
 
 /// What out[0] says: accepted, or clean; torn, from open; else a refusal.
 pub const ACCEPTED: u32 = 0;
@@ -39,6 +41,7 @@ mod c {
             sheet: *const u8, sheet_length: usize, area: *const u8, area_length: usize, depths: *mut u32, depths_length: usize, out: *mut u32,
         );
         pub fn balladsky_table(sheet: *const u8, sheet_length: usize, rows: *mut u32, rows_length: usize, out: *mut u32);
+        pub fn balladsky_write(fields: *const u32, sheet: *mut u8, sheet_length: usize, out: *mut u32);
     }
 }
 
@@ -68,4 +71,8 @@ pub fn plan(sheet: &[u8], area: &[u8], depths: &mut [u32], out: &mut Out) {
 
 pub fn table(sheet: &[u8], rows: &mut [u32], out: &mut Out) {
     unsafe { c::balladsky_table(sheet.as_ptr(), sheet.len(), rows.as_mut_ptr(), rows.len(), out.as_mut_ptr()) }
+}
+
+pub fn write(fields: &[u32; FIELDS], sheet: &mut [u8], out: &mut Out) {
+    unsafe { c::balladsky_write(fields.as_ptr(), sheet.as_mut_ptr(), sheet.len(), out.as_mut_ptr()) }
 }

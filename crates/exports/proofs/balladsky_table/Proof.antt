@@ -11,8 +11,8 @@ use borrow.Author.Needs.{needs}
 use Rattle.exports.proofs.balladsky_table.Statement.{statement}
 use Rattle.exports.proofs.balladsky_table.Tie as tie
 
-put-rows-requires : tie.Need-put-rows-requires
-put-rows-requires c κs =
+put-size-requires : tie.Need-put-size-requires
+put-size-requires c κs =
     let at-count = c .before .before in
     let at-table = at-count .before .before .before .before in
     holds-by (at-count .count .given .1) (ap (λ (a : Tabled × List ℕ). a .0) (at-table .table .ensures)) SmallTabled (tabled-small _ _)
@@ -27,7 +27,7 @@ returns : tie.Need-returns
 returns c =
     let at-count = c .before .before .before in
     let at-table = at-count .before .before .before .before in
-    both-by numbersOf _ (at-count .count .given .1) (at-table .table .ensures) (c .put-rows .ensures)
+    both-by numbersOf _ (at-count .count .given .1) (at-table .table .ensures) (c .put-size .ensures)
 
 returns-2 : tie.Need-returns-2
 returns-2 c =
@@ -41,7 +41,7 @@ balladsky-table-spec =
     (tie.spec
     (λ c κs. search needs)
     (λ c. search needs)
-    put-rows-requires
+    put-size-requires
     (λ c. search needs)
     put-refusal-requires
     (λ c. search needs)
