@@ -1,9 +1,10 @@
-//! Compares the static library with the plain implementation on random cases: sheets valid and damaged, journals clean,
-//! torn and damaged, areas of 0 to 8,193 bytes, histories with a cut after every store. The whole of `out` and of each
-//! lent buffer is compared, noise beyond the answer included; histories are compared with the book too. In every case
-//! each buffer that the library is given ends before a guard page or begins behind one, so that a read or write past it
-//! is a fault, and sheet and area must be as they were. Then lengths from 2^16 to 2^32 and a little more, which are
-//! other lengths to whoever keeps fewer bits. Prints its seed; stops with status 1 at the first difference or fault.
+//! Compares the static library with the plain implementation on random cases: sheets valid, damaged and written,
+//! journals clean, torn and damaged, areas of 0 to 8,193 bytes, histories with a cut after every store. The whole of
+//! `out` and of each lent buffer is compared, noise beyond the answer included; histories are compared with the book
+//! too. In every case each buffer that the library is given ends before a guard page or begins behind one, so that a
+//! read or write past it is a fault, and sheet, area and fields must be as they were. Then lengths from 2^16 to 2^32 and
+//! a little more, which are other lengths to whoever keeps fewer bits. Prints its seed; stops with status 1 at the first
+//! difference or fault.
 //!
 //!     cargo run --release --manifest-path harness/Cargo.toml [SEED]
 use balladsky as library;
@@ -18,7 +19,7 @@ use harness::random::{self, Dice};
 enum Ask { Open, Rain(u32), Irrigation(u32), Close, Mend, Plan(usize), Table(usize) }
 
 impl Ask {
-    /// Which of the seven it is, from 0.
+    /// Which of the calls on a sheet it is, from 0.
     fn kind(self) -> usize {
         match self {
             Ask::Open => 0,
@@ -69,6 +70,12 @@ fn by_plain(sheet: &[u8], area: &[u8], ask: Ask, out: &mut [u32; 12], lent: &mut
     out[..numbers.len()].copy_from_slice(&numbers);
 }
 
+/// The kind of the writer, behind those of the calls on a sheet.
+const WRITE: usize = 7;
+
+/// `out` and the bytes lent to the writer.
+type Sheet = ([u32; 12], Vec<u8>);
+
 /// At most 8,193 bytes are shown.
 fn hex(bytes: &[u8]) -> String {
     bytes.iter().take(8_193).map(|b| format!("{b:02x}")).collect()
@@ -112,6 +119,20 @@ impl Guards {
         self.ended += (!sides & 0xf).count_ones() as u64;
         answer
     }
+
+    /// The writer's answer over `before`, likewise.
+    fn write(&mut self, fields: &[u32; 40], before: &Sheet, sides: u32) -> Sheet {
+        let side = |bit: u32| if sides >> bit & 1 == 0 { Side::Ends } else { Side::Begins };
+        let (f, s) = (self.lent.numbers(fields, side(0)), self.sheet.bytes(&before.1, side(1)));
+        let f: &[u32; 40] = (&*f).try_into().unwrap();
+        let out: &mut [u32; 12] = self.out.numbers(&before.0, side(2)).try_into().unwrap();
+        let message = || format!("the library's write touched what it was not given\nfields {fields:?}, {} bytes", before.1.len());
+        memory::watched(&message, || library::write(f, s, out));
+        assert_eq!(f, fields, "the fields were written");
+        self.began += (sides & 7).count_ones() as u64;
+        self.ended += (!sides & 7).count_ones() as u64;
+        (*out, s.to_vec())
+    }
 }
 
 /// What `out` holds before a call.
@@ -119,7 +140,7 @@ fn noisy(noise: u32) -> [u32; 12] {
     std::array::from_fn(|i| noise.wrapping_mul(i as u32 + 1))
 }
 
-struct Tally { cases: u64, answers: [[u64; 17]; 7], guards: Guards }
+struct Tally { cases: u64, answers: [[u64; 17]; 8], guards: Guards }
 
 impl Tally {
     /// One case: both are asked the same, with the same noise in what is lent.
@@ -136,7 +157,24 @@ impl Tally {
         left.0
     }
 
-    /// All seven calls.
+    /// The writer, into so many bytes of noise.
+    fn written(&mut self, g: &mut Dice, fields: &[u32; 40], room: usize) -> Sheet {
+        let noise = g.next() as u32;
+        let mut right: Sheet = (noisy(noise), (0..room).map(|i| noise as u8 ^ i as u8).collect());
+        let left = self.guards.write(fields, &right, noise >> 28);
+        let numbers = numbers::written(plain::write(fields, &mut right.1));
+        right.0[..numbers.len()].copy_from_slice(&numbers);
+        if left != right {
+            println!("DIFFERENCE: write, {room} bytes, fields {fields:?}");
+            println!("library {:?} {}\nplain   {:?} {}", left.0, hex(&left.1), right.0, hex(&right.1));
+            std::process::exit(1)
+        }
+        self.cases += 1;
+        self.answers[WRITE][left.0[0] as usize] += 1;
+        left
+    }
+
+    /// All calls on a sheet.
     fn all(&mut self, g: &mut Dice, sheet: &[u8], area: &[u8]) {
         let (depths, rows) = (g.pick(&[0, 1, 5, 11, 274, 275, 276]), g.pick(&[0, 5, 6, 11, 12, 167, 168, 173, 174, 175]));
         let (a, b) = (random::amount(g), random::amount(g));
@@ -158,6 +196,26 @@ fn sheets(t: &mut Tally, g: &mut Dice) {
     for length in 0..200 {
         let sheet = vec![g.pick(&[1, 0x80, 0xff]); length];
         t.all(g, &sheet, &[]);
+    }
+}
+
+/// Sheets written: any fields, into a byte too few, just enough, 86 and 120. What is made is opened.
+fn writer(t: &mut Tally, g: &mut Dice) {
+    for _ in 0..40_000 {
+        let days = g.pick(&[4, 30, plain::DAYS as u32]);
+        let fields = random::any_fields(g, days);
+        let size = plain::write_sheet(&fields).len();
+        for room in [size - 1, size, library::SHEET, 120] {
+            let (out, sheet) = t.written(g, &fields, room);
+            if out[0] == library::ACCEPTED {
+                assert_eq!(out[2] as usize, size, "bytes of a sheet");
+                t.same(g, &sheet[..size], &[0xff; 8], Ask::Open);
+            }
+        }
+    }
+    for (field, value, room, want) in [(10, u32::MAX, 0, [4, 10]), (2, 32, 0, [4, 2]), (40, 127, 40, [15, 0])] {
+        let (out, _) = t.written(g, &random::with(random::small(127), &[(field, value)]), room);
+        assert_eq!(out[..2], want, "document 02's cases");
     }
 }
 
@@ -370,6 +428,28 @@ impl Long {
         }
     }
 
+    /// The writer, which makes the small sheet where it stands: into so many bytes, noise behind it and at the end.
+    fn writer(&mut self, length: usize) {
+        let small = self.sheet[..SMALL].to_vec();
+        let fields = random::small(127);
+        for by_library in [true, false] {
+            let (sheet, mut out, mut want) = (&mut self.sheet[..length], noisy(7), noisy(7));
+            want[..3].copy_from_slice(&[0, 0, SMALL as u32]);
+            sheet[..ENDS].fill(8);
+            sheet[length - ENDS..].fill(9);
+            if by_library {
+                memory::watched(&|| format!("the library's write touched what it was not given, {length} bytes"), || library::write(&fields, sheet, &mut out));
+            } else {
+                out[..3].copy_from_slice(&numbers::written(plain::write(&fields, sheet)));
+            }
+            let (first, last) = (&sheet[..ENDS], &sheet[length - ENDS..]);
+            assert!(out == want && first[..SMALL] == small && first[SMALL..] == [8; ENDS - SMALL] && last == [9; ENDS], "write, {length} bytes");
+            sheet[SMALL..ENDS].fill(0);
+            sheet[length - ENDS..].fill(0);
+        }
+        self.cases += 1;
+    }
+
     /// The plan and the table of the small sheet, as document 01 prints them.
     fn buffers(&mut self, count: usize) {
         let rows = [1, 1, 700, 0, 700, 934, 1, 2, 800, 0, 800, 1_067];
@@ -385,6 +465,9 @@ fn long_lengths() -> u64 {
         for more in [0, 40, 41] {
             long.sheets(base + more);
         }
+        for more in [0, 40, 41] {
+            long.writer(base + more);
+        }
         for more in [0, 9, 8_192] {
             long.areas(base + more);
         }
@@ -399,10 +482,10 @@ fn main() {
     let seed = std::env::args().nth(1).map_or(20_261_115, |s| s.parse().expect("the seed is a number"));
     println!("seed {seed}");
     let mut g = Dice(seed);
-    let mut t = Tally { cases: 0, answers: [[0; 17]; 7], guards: Guards::new() };
+    let mut t = Tally { cases: 0, answers: [[0; 17]; 8], guards: Guards::new() };
     memory::report_faults();
-    let parts: [(&str, fn(&mut Tally, &mut Dice)); 5] = [
-        ("sheets, valid and damaged", sheets), ("the longest season and a day more, from every date", longest),
+    let parts: [(&str, fn(&mut Tally, &mut Dice)); 6] = [
+        ("sheets, valid and damaged", sheets), ("sheets written", writer), ("the longest season and a day more, from every date", longest),
         ("areas of 0 to 8,193 bytes", lengths), ("journals clean, torn and damaged", journals),
         ("plans and tables of long seasons", plans),
     ];
@@ -416,7 +499,7 @@ fn main() {
     println!("histories, a cut after every store: {} cases, {calls} calls, {torn} torn openings", t.cases - before);
     println!("guard pages: {} buffers ended before one, {} began behind one", t.guards.ended, t.guards.began);
     println!("lengths of 2^16, 2^31 and 2^32 and more: {} cases beside those counted below", long_lengths());
-    for (name, seen) in ["open", "rain", "irrigation", "close", "mend", "plan", "table"].iter().zip(t.answers) {
+    for (name, seen) in ["open", "rain", "irrigation", "close", "mend", "plan", "table", "write"].iter().zip(t.answers) {
         let seen: Vec<String> = seen.iter().enumerate().filter(|(_, n)| **n > 0).map(|(k, n)| format!("{k}: {n}")).collect();
         println!("{name}, answers by number: {}", seen.join(", "));
     }

@@ -1,6 +1,6 @@
 //! The numbers that the exported calls write to `out`, made of the plain implementation's answers: the refusal's number,
 //! the number returned with it, then the answer.
-use crate::plain::{Ledger, Mended, Opened, Planned, Recorded, Tabled};
+use crate::plain::{Ledger, Mended, Opened, Planned, Recorded, Tabled, Written};
 
 fn found(number: u32, place: usize, l: Ledger) -> Vec<u32> {
     let depths = [l.day, l.depletion, l.waiting_rain, l.waiting_irrigation, l.rain, l.irrigation, l.used, l.percolation];
@@ -39,4 +39,8 @@ pub fn planned(p: Planned) -> Vec<u32> {
 
 pub fn tabled(t: Tabled) -> Vec<u32> {
     answered(t.number, t.value, &[t.rows as u32])
+}
+
+pub fn written(w: Written) -> Vec<u32> {
+    answered(w.number, w.value, &[w.bytes as u32])
 }

@@ -102,6 +102,15 @@ pub fn spoilt_fields(g: &mut Dice, days: u32) -> [u32; 40] {
     f
 }
 
+/// The same, and in one list of four any number in one of the fields.
+pub fn any_fields(g: &mut Dice, days: u32) -> [u32; 40] {
+    let mut f = spoilt_fields(g, days);
+    if g.one_in(4) {
+        f[g.of(0, 39) as usize] = g.next() as u32 >> g.of(0, 31);
+    }
+    f
+}
+
 /// Some bytes of a sheet cut off, changed, put in or added.
 pub fn spoil_sheet(g: &mut Dice, sheet: &mut Vec<u8>) {
     for _ in 0..g.pick(&[0, 0, 1, 2]) {

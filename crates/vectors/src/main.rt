@@ -11,6 +11,7 @@ mod ledger;
 mod rules;
 mod sheets;
 mod text;
+mod writing;
 
 use text::print;
 use text::print_number;
@@ -76,8 +77,13 @@ impl Tally {
 
     // Runs a group and prints its count; the count of all so far.
     fn run(self, path: &[u8], rule: u32) -> Tally {
+        self.run_again(path, rule, path)
+    }
+
+    // The same under another name, for a group that is asked a second question.
+    fn run_again(self, path: &[u8], rule: u32, name: &[u8]) -> Tally {
         let group = read_group(path, rule);
-        group.print(path);
+        group.print(name);
         self.and(group)
     }
 }
@@ -246,6 +252,12 @@ fn run_exact_rules(before: Tally) -> Tally {
         .run(b"rule_gross", rules::GROSS)
         .run(b"rule_use", rules::USE)
         .run(b"rule_refusals", rules::REFUSAL)
+        .run_again(
+            b"rule_refusals",
+            rules::WRITE,
+            b"rule_refusals, of the writer",
+        )
+        .run(b"rule_writing", rules::ROOM)
         .run(b"rule_journal", rules::JOURNAL)
 }
 
@@ -266,7 +278,8 @@ fn main() {
     printed.print(b"printed, at the printed precision");
     let bounded = run_bounded(none);
     bounded.print(b"printed, within bounds set from the deviations seen");
-    let sheets = none.run(b"refusals", rules::REFUSAL);
+    let sheets = none.run(b"refusals", rules::REFUSAL)
+        .run_again(b"refusals", rules::WRITE, b"refusals, of the writer");
     sheets.print(b"printed sheets, accepted or refused by document 01's rules");
     let exact = run_exact_seasons(run_exact_rules(none));
     exact.print(b"document 01's rules by a separate reading");

@@ -3,6 +3,7 @@
 // then places of the sheet with their values.
 use crate::ledger;
 use crate::sheets;
+use crate::writing;
 use season::DayClose;
 use season::Net;
 use trial::get;
@@ -66,14 +67,20 @@ pub const PLAN: u32 = 18;
 // The plan's depth on a day.
 pub const DEPTH: u32 = 19;
 
-// A byte of the sheet, or its length.
+// A byte of the sheet that the writer makes, or its length.
 pub const SHEET: u32 = 20;
 
+// What the writer answers: 0, or the refusal's number × 1000 and the number returned with it.
+pub const WRITE: u32 = 21;
+
+// What the writer answers in a buffer of so many bytes, or a byte of that buffer.
+pub const ROOM: u32 = 22;
+
 // A number of the days closed by the rule.
-pub const BALANCE: u32 = 21;
+pub const BALANCE: u32 = 23;
 
 // A byte of the journal that the calls wrote, or a number of its opening.
-pub const JOURNAL: u32 = 22;
+pub const JOURNAL: u32 = 24;
 
 // Effective rain.
 fn rain(q: u32) -> u64 {
@@ -154,12 +161,16 @@ fn set_field(fields: &mut [u32], field: u32, value: u32) {
     }
 }
 
-// A byte of the sheet; or its length, where `whole` is 1.
-fn sheet_byte(sheet: &[u8], at: u32, whole: u32) -> u64 {
+// A byte of the sheet that the writer makes; or its length, where `whole` is 1.
+fn written(fields: [u32; 40], at: u32, whole: u32) -> u64 {
     if whole == 1 {
-        return sheet.len() as u64;
+        return writing::in_room(fields, 121, 0);
     }
-    get_byte(sheet, at as usize) as u64
+    if at < 121 {
+        writing::in_room(fields, 121, at + 1)
+    } else {
+        0
+    }
 }
 
 fn signed(k: usize) -> isize {
@@ -184,16 +195,30 @@ fn of_sheet(rule: u32, sheet: &[u8], a: u32, b: u32) -> u64 {
         PERCENT => percent(b, sheets::day_numbers(sheet, a).total),
         PLAN => sheets::plan_number(sheet, a),
         DEPTH => sheets::depth(sheet, a),
-        SHEET => sheet_byte(sheet, a, b),
         _ => 0,
     }
 }
 
-// Writes the sheet that stands, with a line's own fields; how many bytes.
-fn write_own(fields: [u32; 40], numbers: &[u32], bytes: &mut [u8]) -> usize {
+// The sheet that stands, with a line's own fields.
+fn own_fields(fields: [u32; 40], numbers: &[u32]) -> [u32; 40] {
     let mut own = fields;
     set_fields(&mut own, numbers);
-    sheets::write_sheet(&own, bytes)
+    own
+}
+
+// A figure of a season or of the writer, from forty numbers.
+fn of_fields(rule: u32, own: [u32; 40], a: u32, b: u32) -> u64 {
+    match rule {
+        SHEET => written(own, a, b),
+        WRITE => writing::refusal(own),
+        ROOM => writing::in_room(own, a, b),
+        _ => {
+            let mut bytes = [0u8; 121];
+            let k = sheets::write_sheet(&own, &mut bytes);
+            let n = io::count(signed(k), &bytes);
+            of_sheet(rule, &bytes[..n], a, b)
+        }
+    }
 }
 
 // The product's answer, by the line's numbers and the sheet that stands.
@@ -205,12 +230,7 @@ pub fn answer(rule: u32, numbers: &[u32], fields: [u32; 40]) -> u64 {
         GROSS => gross(a, b),
         NET => season::saturating_sub(a, b) as u64,
         USE => close(a, 0, b, get(numbers, 6), get(numbers, 7)).used as u64,
-        _ => {
-            let mut bytes = [0u8; 121];
-            let k = write_own(fields, numbers, &mut bytes);
-            let n = io::count(signed(k), &bytes);
-            of_sheet(rule, &bytes[..n], a, b)
-        }
+        _ => of_fields(rule, own_fields(fields, numbers), a, b),
     }
 }
 

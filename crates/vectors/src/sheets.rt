@@ -36,7 +36,8 @@ fn put_groups(bytes: &mut [u8], from: usize, n: u32) -> usize {
     saturating_add(from as u64, groups.count as u64) as usize
 }
 
-// Writes a sheet; how many bytes it has.
+// Writes a sheet, judged by nobody: also one that reading must refuse, which the product's writer does not make; how many
+// bytes it has.
 pub fn write_sheet(fields: &[u32], bytes: &mut [u8]) -> usize {
     let mut at: usize = 0;
     let mut i: usize = 0;

@@ -1,11 +1,11 @@
 //! Measures the library and the plain implementation side by side in one run: medians of 401 rounds, each a batch of
 //! about 20 µs of the one, then of the other, and the ratio of the medians. Every number of every answer is compared
-//! first. Journals of mixed lengths and usual seasons are 32 each, taken in turn.
+//! first. Journals of mixed lengths, usual seasons and sheets to write are 32 each, taken in turn.
 //!
 //!     cargo run --release --manifest-path harness/Cargo.toml --bin bench
 use balladsky as library;
 use harness::plain::book::{bytes, Entry};
-use harness::random::Dice;
+use harness::random::{self, Dice};
 use harness::{numbers, plain};
 use std::hint::black_box;
 use std::time::Instant;
@@ -113,12 +113,12 @@ fn same(name: &str, out: &[u32; 12], want: &[u32]) {
 
 const NOISE: u32 = 0x5eed;
 
-/// Calls on journals in turn: with many of them a branch can't be foretold from the round before.
-fn in_turn<'a>(areas: &'a [Vec<u8>], mut call: impl FnMut(&[u8]) + 'a) -> impl FnMut() + 'a {
+/// Calls on journals or sheets in turn: with many of them a branch can't be foretold from the round before.
+fn in_turn<'a, T>(each: &'a [T], mut call: impl FnMut(&T) + 'a) -> impl FnMut() + 'a {
     let mut next = 0;
     move || {
-        call(black_box(&areas[next]));
-        next = if next + 1 < areas.len() { next + 1 } else { 0 };
+        call(black_box(&each[next]));
+        next = if next + 1 < each.len() { next + 1 } else { 0 };
     }
 }
 
@@ -174,6 +174,21 @@ fn table_line(sheet: &[u8]) -> Line<'_> {
     )
 }
 
+fn write_line(sheets: &[[u32; 40]]) -> Line<'_> {
+    let (mut out, mut ours, mut theirs) = ([NOISE; 12], [0xee; 86], [0xee; 86]);
+    for fields in sheets {
+        out = [NOISE; 12];
+        library::write(fields, &mut ours, &mut out);
+        same("write", &out, &numbers::written(plain::write(fields, &mut theirs)));
+        assert_eq!(ours, theirs, "write");
+    }
+    line(
+        "write a sheet",
+        in_turn(sheets, move |fields| library::write(fields, black_box(&mut ours), black_box(&mut out))),
+        in_turn(sheets, move |fields| { black_box(plain::write(fields, black_box(&mut theirs))); }),
+    )
+}
+
 fn main() {
     let sheet = season(300, 2_000, 140, (30, 150), 50);
     let few = season(300, 2_000, 140, (200, 300), 60);
@@ -183,6 +198,8 @@ fn main() {
     let (uneven, season) = (journals(|j| mixed(j, 0)), journals(|j| usual(j, 275)));
     let (uneven_left, season_left) = (journals(|j| mixed(j, 8)), journals(|j| usual(j, 274)));
     let empty = [Vec::new()];
+    let mut g = Dice(1);
+    let fields: Vec<[u32; 40]> = (0..32).map(|_| random::fields(&mut g, 275)).collect();
     let mut lines = vec![
         open_line("8,192 bytes of four-byte entries", &sheet, &four),
         open_line("8,192 bytes of two-byte entries", &sheet, &two),
@@ -199,6 +216,7 @@ fn main() {
         plan_line("many", &many, &blank[0][..64]),
         table_line(&sheet),
         open_line("no area (reads the sheet)", &sheet, &empty),
+        write_line(&fields),
     ];
     for l in &mut lines {
         let each = (0..300).map(|_| timed(&mut l.ours, 1)).fold(f64::MAX, f64::min).max(1.0);

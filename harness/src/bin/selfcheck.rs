@@ -1,6 +1,6 @@
-//! Checks the plain implementation itself: against document 01's own numbers, a second reader of sheets, slow rules,
-//! every choice of waterings in small seasons, the book, and a literal reading of what an opening finds. It takes some
-//! minutes; 10 percent of the rounds take seconds. Status 1 at a mismatch.
+//! Checks the plain implementation itself: against document 01's own numbers, a second reader and writer of sheets,
+//! slow rules, every choice of waterings in small seasons, the book, and a literal reading of what an opening finds. It
+//! takes some minutes; 10 percent of the rounds take seconds. Status 1 at a mismatch.
 //!
 //!     cargo run --release --manifest-path harness/Cargo.toml --bin selfcheck [SEED [PERCENT OF THE ROUNDS]]
 use harness::plain::book::{self, Book, Call};
@@ -150,6 +150,11 @@ fn slow_sheet(sheet: &[u8]) -> Result<[u32; 40], (u32, usize)> {
     if field < 40 {
         return Err((1, sheet.len()));
     }
+    slow_fields(&f).map(|()| f)
+}
+
+/// Forty numbers by the list of refusals, 4 to 7.
+fn slow_fields(f: &[u32; 40]) -> Result<(), (u32, usize)> {
     for i in 1..=40usize {
         let (low, high) = match i {
             1 => (1, 12),
@@ -177,7 +182,7 @@ fn slow_sheet(sheet: &[u8]) -> Result<[u32; 40], (u32, usize)> {
     } else if f[38] > f[33] * (f[34] + (f[35] - f[34]) / grown) {
         Err((7, 0))
     } else {
-        Ok(f)
+        Ok(())
     }
 }
 
@@ -200,6 +205,64 @@ fn sheet_bytes(g: &mut Dice, percent: u32) -> (u64, u64) {
     }
     println!("sheets by refusal, 0 accepted: {:?}", &seen[..8]);
     t.report("sheet bytes, second reader")
+}
+
+/// The bytes of a number by division, lowest group first.
+fn slow_bytes(v: u32) -> Vec<u8> {
+    let (low, rest) = ((v % 128) as u8, v / 128);
+    if rest == 0 { vec![low] } else { [vec![0x80 + low], slow_bytes(rest)].concat() }
+}
+
+/// The writer: document 02's cases, then any fields and buffers against a second writer and the second reader.
+fn writer(g: &mut Dice, percent: u32) -> (u64, u64) {
+    let mut t = tally();
+    let small_bytes = [&[1, 9, 1, 1, 1, 1, 0x28, 0x64, 0x3c, 0xf4, 3][..], &[0; 23], &[0x64, 0x14, 0x14, 0x32, 0x4b, 0, 0x7f]].concat();
+    let mut longest = [0; 40];
+    longest[..9].copy_from_slice(&[12, 31, 128, 128, 10, 9, 200, 200, 200]);
+    longest[9..21].fill(1_500);
+    longest[21..33].fill(60_000);
+    longest[33..].copy_from_slice(&[400, 300, 300, 80, 100, 120_000, 127]);
+    let mut shortest = [0; 40];
+    shortest[..9].copy_from_slice(&[1, 1, 1, 1, 1, 1, 10, 10, 10]);
+    shortest[33..].copy_from_slice(&[1, 10, 10, 5, 1, 0, 0]);
+    let cases = [
+        (small(127), 41, (0, 0, 41)), (small(127), 50, (0, 0, 41)), (small(127), 40, (15, 0, 0)),
+        (with(small(127), &[(2, 32)]), 0, (4, 2, 0)), (with(small(127), &[(10, u32::MAX)]), 0, (4, 10, 0)),
+        (with(small(127), &[(3, 76), (4, 100), (5, 50), (6, 50)]), 0, (5, 0, 0)),
+        (with(small(127), &[(35, 21)]), 0, (6, 0, 0)), (with(small(127), &[(39, 2_001)]), 0, (7, 0, 0)),
+        (longest, 86, (0, 0, 86)), (longest, 85, (15, 0, 0)), (shortest, 40, (0, 0, 40)), (shortest, 39, (15, 0, 0)),
+    ];
+    for (f, room, (number, value, bytes)) in cases {
+        let mut sheet = vec![0xee; room];
+        t.same(|| format!("{f:?} in {room}"), write(&f, &mut sheet), Written { number, value, bytes });
+        t.same(|| format!("beyond {bytes} of {room}"), &sheet[bytes..], &vec![0xee; room - bytes][..]);
+        if f == small(127) && number == 0 {
+            t.same(|| format!("small sheet in {room}"), &sheet[..41], &small_bytes[..]);
+        }
+    }
+    let mut seen = [0u32; 16];
+    for _ in 0..1_000 * percent {
+        let days = g.pick(&[4, 30, DAYS as u32]);
+        let f = random::any_fields(g, days);
+        let made: Vec<u8> = f.iter().flat_map(|&v| slow_bytes(v)).collect();
+        for room in [made.len() - 1, made.len(), 86, 120] {
+            let noise = g.next() as u8;
+            let (mut got, mut want) = (vec![noise; room], vec![noise; room]);
+            let w = match slow_fields(&f) {
+                Err((number, value)) => Written { number, value, bytes: 0 },
+                Ok(()) if room < made.len() => Written { number: 15, value: 0, bytes: 0 },
+                Ok(()) => {
+                    want[..made.len()].copy_from_slice(&made);
+                    t.same(|| format!("read back {f:?}"), slow_sheet(&made), Ok(f));
+                    Written { number: 0, value: 0, bytes: made.len() }
+                }
+            };
+            seen[w.number as usize] += 1;
+            t.same(|| format!("{f:?} in {room}"), (write(&f, &mut got), got), (w, want));
+        }
+    }
+    println!("sheets written, by refusal, 0 made: {seen:?}");
+    t.report("the writer, second writer and reader")
 }
 
 /// Tables and plans of long seasons by the slow rules.
@@ -584,7 +647,7 @@ fn main() {
     let percent = std::env::args().nth(2).map_or(100, |s| s.parse().unwrap());
     println!("seed {seed}, {percent} percent");
     let mut g = Dice(seed);
-    let parts = [daggers(), sheet_bytes(&mut g, percent), long_seasons(&mut g, percent),
+    let parts = [daggers(), sheet_bytes(&mut g, percent), writer(&mut g, percent), long_seasons(&mut g, percent),
         brute(&mut g, percent), histories(&mut g, percent), any_bytes(&mut g, percent)];
     let (compared, wrong) = parts.iter().fold((0, 0), |a, p| (a.0 + p.0, a.1 + p.1));
     println!("in all: {compared} compared, {wrong} mismatches");
