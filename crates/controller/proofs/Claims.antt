@@ -12,8 +12,9 @@ use Rattle.verdict.specs.Refusals.{orRefused, verdictOf}
 use Rattle.leb128.specs.Groups.{encode, overGroups, overIn, groupCount}
 use Rattle.leb128.specs.Forms.{decode, decodeFrom, below}
 use Rattle.sheet.specs.Numbers.{before, numbers, ended, numbersRead, written}
-use Rattle.sheet.specs.Fields.{outside, lowestOutside}
-use Rattle.sheet.specs.Sheets.{fieldsVerdict, sheetOf}
+use Rattle.fields.specs.Fields.{outside, lowestOutside}
+use Rattle.fields.specs.Refusals.{fieldsVerdict}
+use Rattle.sheet.specs.Sheets.{sheetOf}
 use Rattle.sheet.proofs.Claims as sheets
 use Rattle.journal.specs.declared.Entry.{Entry}
 use Rattle.journal.specs.declared.Opening.{Opening}

@@ -10,7 +10,7 @@ use Rattle.season.specs.Day.{cropNeed}
 use Rattle.season.specs.Closing.{cropUse}
 use Rattle.season.specs.Depths.{netIs, grossOf}
 use Rattle.sheet.specs.Numbers.{written}
-use Rattle.sheet.specs.Fields.{seasonOf}
+use Rattle.fields.specs.Fields.{seasonOf}
 use Rattle.sheet.specs.Sheets.{sheetOf}
 use Rattle.sheet.specs.Cases.{small}
 use Rattle.journal.specs.Opening as journal

@@ -10,8 +10,9 @@ use Rattle.leb128.specs.Claims.{Bytes}
 use Rattle.sheet.specs.declared.Written.the-variants as writer
 use Rattle.sheet.specs.declared.Written.the-variants.{Made}
 use Rattle.sheet.specs.Numbers.{numbersAre, numbersRead, written}
-use Rattle.sheet.specs.Fields.{seasonOf}
-use Rattle.sheet.specs.Sheets.{fieldsVerdict, sheetIs, sheetOf}
+use Rattle.fields.specs.Fields.{seasonOf}
+use Rattle.fields.specs.Refusals.{fieldsVerdict}
+use Rattle.sheet.specs.Sheets.{sheetIs, sheetOf}
 use Rattle.sheet.specs.Writing.{writeLines, sheetWritten, writeVerdict, fieldsOf}
 use Rattle.journal.specs.declared.Entry.{Entry}
 use Rattle.journal.specs.declared.Ledger.{Ledger}

@@ -11,8 +11,9 @@ use Rattle.season.specs.Day.{dateOf, kcOf, cropNeed, rainOn}
 use Rattle.verdict.specs.Refusals.{orRefused}
 use Rattle.decades.specs.Table.{dayRow, withDay, rowsTo, six, flat}
 use Rattle.sheet.specs.Numbers.{before, numbers, ended, numbersRead, written}
-use Rattle.sheet.specs.Fields.{outside, lowestOutside}
-use Rattle.sheet.specs.Sheets.{fieldsVerdict, sheetOf}
+use Rattle.fields.specs.Fields.{outside, lowestOutside}
+use Rattle.fields.specs.Refusals.{fieldsVerdict}
+use Rattle.sheet.specs.Sheets.{sheetOf}
 use Rattle.sheet.proofs.Start as start
 use Rattle.controller.specs.Calls.{onSheet}
 use Rattle.printed.specs.Text.{decimal, ending, cells, printed}

@@ -18,10 +18,11 @@ use Rattle.verdict.specs.declared.Verdict.the-variants.{Accepted, Refused}
 use Rattle.leb128.specs.Claims.{Bytes}
 use Rattle.verdict.proofs.First.{refused-accepted}
 use Rattle.sheet.specs.Numbers.{Run, before, numbers, numbersAre, ended, numbersRead, written}
-use Rattle.sheet.specs.Fields.{seasonOf}
-use Rattle.sheet.specs.Sheets.{fieldsVerdict, sheetOf}
+use Rattle.fields.specs.Fields.{seasonOf}
+use Rattle.fields.specs.Refusals.{fieldsVerdict}
+use Rattle.sheet.specs.Sheets.{sheetOf}
 use Rattle.sheet.proofs.Runs.{numbers-whole, numbers-short, numbers-bad}
-use Rattle.sheet.proofs.Verdicts.{accepted-sound}
+use Rattle.fields.proofs.Verdicts.{accepted-sound}
 
 -- What a run of k numbers from place at on is: k values that stand there as they are written.
 abbrev Reads : ℕ → ℕ → List ℕ → Run → Type 0

@@ -16,12 +16,12 @@ use Rattle.verdict.proofs.First.{first-append, or-accepted}
 use Rattle.sheet.specs.declared.Written.{Written}
 use Rattle.sheet.specs.declared.Written.the-variants.{Made, Refused}
 use Rattle.sheet.specs.Numbers.{numbersAre, numbersRead, written}
-use Rattle.sheet.specs.Fields.{seasonOf}
-use Rattle.sheet.specs.Sheets.{fieldLines, fieldsVerdict, sheetIs, sheetOf}
+use Rattle.fields.specs.Fields.{seasonOf}
+use Rattle.fields.specs.Refusals.{fieldLines, fieldsVerdict}
+use Rattle.sheet.specs.Sheets.{sheetIs, sheetOf}
 use Rattle.sheet.specs.Writing.{writeLines, writtenBy, sheetWritten, writeVerdict, numbersOf, fieldsOf}
-use Rattle.sheet.proofs.Ranges.{fields-small}
-use Rattle.sheet.proofs.Verdicts.{accepted-sound}
-use Rattle.sheet.proofs.ReadBack.{written-read, written-accepted}
+use Rattle.fields.proofs.Verdicts.{accepted-sound}
+use Rattle.sheet.proofs.ReadBack.{fields-small, written-read, written-accepted}
 use Rattle.sheet.proofs.Accepted.{is-accepted}
 use Rattle.sheet.proofs.Lengths.{written-length}
 

@@ -5,8 +5,9 @@ use Rattle.leb128.specs.Forms.{decode, decodeFrom, below}
 use Rattle.season.specs.SmallSheet as season
 use Rattle.verdict.specs.Refusals.{orRefused}
 use Rattle.sheet.specs.Numbers.{before, numbers, ended, numbersRead, written}
-use Rattle.sheet.specs.Fields.{outside, lowestOutside}
-use Rattle.sheet.specs.Sheets.{fieldsVerdict, sheetOf}
+use Rattle.fields.specs.Fields.{outside, lowestOutside}
+use Rattle.fields.specs.Refusals.{fieldsVerdict}
+use Rattle.sheet.specs.Sheets.{sheetOf}
 use Rattle.sheet.specs.Writing.{sheetWritten}
 use Rattle.sheet.specs.Cases.{edges}
 use Rattle.sheet.specs.Claims.{Claims}

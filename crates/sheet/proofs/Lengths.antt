@@ -13,12 +13,13 @@ use Rattle.leb128.proofs.Laws.{count-pos, count-le, count-lt, encode-length}
 use Rattle.season.specs.Sheet.{seasonDays, longestSeason}
 use Rattle.season.specs.Calendar.{lengths}
 use Rattle.season.proofs.Each.{all-le}
-use Rattle.sheet.specs.declared.Limit.{Limit}
+use Rattle.fields.specs.declared.Limit.{Limit}
 use Rattle.sheet.specs.Numbers.{numbersRead, written}
-use Rattle.sheet.specs.Fields.{limits, lowestOutside, seasonOf}
-use Rattle.sheet.specs.Sheets.{fieldAtFault, fieldsVerdict, sheetOf}
-use Rattle.sheet.proofs.Ranges.{inside, none-outside}
-use Rattle.sheet.proofs.Verdicts.{accepted-sound}
+use Rattle.fields.specs.Fields.{limits, lowestOutside, seasonOf}
+use Rattle.fields.specs.Refusals.{fieldAtFault, fieldsVerdict}
+use Rattle.sheet.specs.Sheets.{sheetOf}
+use Rattle.fields.proofs.Ranges.{inside, none-outside}
+use Rattle.fields.proofs.Verdicts.{accepted-sound}
 use Rattle.sheet.proofs.Accepted.{is-accepted}
 
 length-written : (v : ℕ) (vs : List ℕ) → length (written (v ∷ vs)) ≡ groupCount v + length (written vs)

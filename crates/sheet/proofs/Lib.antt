@@ -1,6 +1,4 @@
 pub mod Runs
-pub mod Lowest
-pub mod Ranges
 pub mod Verdicts
 pub mod ReadBack
 pub mod Accepted

@@ -3,17 +3,18 @@
 use mathlib.Core.Path.{_≡_}
 use mathlib.Core.Bool.{Bool, true, false, cond}
 use mathlib.Core.List.{List, [], _∷_}
-use Prim.Native.Nat.{ℕ, _+_, _≤_}
+use Prim.Native.Nat.{ℕ, _≤_}
 use native.Mathlib.Omega.{arith}
 use lib.Dec.{ltb}
-use lib.ListN.{length, getD}
+use lib.ListN.{length}
 use Rattle.verdict.specs.declared.Verdict.the-variants.{Accepted, Refused}
 use Rattle.verdict.specs.Refusals.{firstOf}
 use Rattle.verdict.proofs.First.{Refusal, first-refusal}
-use Rattle.sheet.specs.Numbers.{Run, run, stop, numbers, Numbers, none, ended, numbersRead}
-use Rattle.sheet.specs.Sheets.{fieldLines, sheetOf}
+use Rattle.fields.specs.Refusals.{fieldLines}
+use Rattle.fields.proofs.Verdicts.{field-lines}
+use Rattle.sheet.specs.Numbers.{Run, run, stop, numbers, Numbers, none, ended, numbersRead, written}
+use Rattle.sheet.specs.Sheets.{sheetOf}
 use Rattle.sheet.specs.Writing.{writeLines}
-use Rattle.sheet.specs.Fields.{limits, outside, lowestOutside}
 use Rattle.sheet.proofs.Start.{Ends, numbers-end}
 use Rattle.sheet.proofs.Refusing.{judged-verdict}
 
@@ -30,26 +31,13 @@ ended-is s (run vs at) h = test (ltb at (length s))
     test false = tt
 ended-is s (stop number place) h = ((omega (arith, h .0 .0), omega (arith, h .0 .1)), h .1)
 
--- A field is one of forty.
-lowest-end : (i : ℕ) (ls : List _) (vs : List ℕ) → lowestOutside i ls vs ≤ i + length ls
-unfolding lowestOutside
-lowest-end i [] vs = omega arith
-lowest-end i (l ∷ ls) [] = omega arith
-lowest-end i (l ∷ ls) (v ∷ vs) = test (outside l v) (lowest-end (i + 1) ls vs)
-  where
-    test : (b : Bool) → lowestOutside (i + 1) ls vs ≤ i + 1 + length ls → cond b i (lowestOutside (i + 1) ls vs) ≤ i + length (l ∷ ls)
-    test true h = omega arith
-    test false h = omega arith
-
 sheet-is : (b : List ℕ) → Refusal OfSheet (sheetOf b .verdict)
 unfolding sheetOf numbersRead
 sheet-is b =
     let f = numbersRead b .fields in
     rw (judged-verdict f (numbersRead b .verdict))
-    (first-refusal OfSheet (numbersRead b .verdict) (fieldLines f) (ended-is b (numbers 40 0 b) (numbers-end 40 0 120 b (omega arith))) (
-      ((omega arith, omega arith), omega (arith, lowest-end 1 (limits (getD f 0 0)) f)),
-      (((omega arith, omega arith), omega arith), (((omega arith, omega arith), omega arith), (((omega arith, omega arith), omega arith), tt))),
-    ))
+    (first-refusal OfSheet (numbersRead b .verdict) (fieldLines f) (ended-is b (numbers 40 0 b) (numbers-end 40 0 120 b (omega arith)))
+    (field-lines OfSheet (λ n v low high small. ((omega arith, high), omega arith)) f [] tt))
 
 pub refused-is : (b : List ℕ) (number value : ℕ) → sheetOf b .verdict ≡ Refused number value → OfSheet number value
 refused-is b number value e = rw e at (sheet-is b)
@@ -58,4 +46,4 @@ refused-is b number value e = rw e at (sheet-is b)
 pub write-refused-is : (f : List ℕ) (room number value : ℕ) → firstOf Accepted (writeLines f room) ≡ Refused number value → value ≤ 120
 write-refused-is f room number value e =
     rw e at (first-refusal (λ n v. v ≤ 120) Accepted (writeLines f room) tt
-    (omega (arith, lowest-end 1 (limits (getD f 0 0)) f), (omega arith, (omega arith, (omega arith, (omega arith, tt))))))
+    (field-lines (λ n v. v ≤ 120) (λ n v low high small. omega arith) f ((ltb room (length (written f)), 15, 0) ∷ []) (omega arith, tt)))

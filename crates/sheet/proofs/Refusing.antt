@@ -16,8 +16,9 @@ use Rattle.verdict.specs.declared.Verdict.the-variants.{Accepted, Refused}
 use Rattle.verdict.specs.Refusals.{orRefused, firstOf}
 use Rattle.verdict.proofs.First.{first-append, first-refused}
 use Rattle.sheet.specs.Numbers.{Run, run, stop, before, numbers, none, ended, numbersRead}
-use Rattle.sheet.specs.Fields.{seasonOf}
-use Rattle.sheet.specs.Sheets.{fieldLines, fieldsVerdict, onlyAccepted, judged, sheetOf}
+use Rattle.fields.specs.Fields.{seasonOf}
+use Rattle.fields.specs.Refusals.{fieldLines, fieldsVerdict}
+use Rattle.sheet.specs.Sheets.{onlyAccepted, judged, sheetOf}
 use Rattle.sheet.specs.Refusals.{First, offends, ends, whole, comesFirst, byteLines, sheetLines}
 use Rattle.sheet.proofs.Runs.{numbers-whole, numbers-short, numbers-bad}
 

@@ -12,8 +12,9 @@ use Rattle.sheet.specs.declared.Written.{Written}
 use Rattle.sheet.specs.declared.Written.the-variants as writer
 use Rattle.sheet.specs.declared.Written.the-variants.{Made}
 use Rattle.sheet.specs.Numbers.{numbersAre, numbersRead, written}
-use Rattle.sheet.specs.Fields.{seasonOf}
-use Rattle.sheet.specs.Sheets.{fieldsVerdict, sheetIs, refusal, sheetOf}
+use Rattle.fields.specs.Fields.{seasonOf}
+use Rattle.fields.specs.Refusals.{fieldsVerdict}
+use Rattle.sheet.specs.Sheets.{sheetIs, refusal, sheetOf}
 use Rattle.sheet.specs.Refusals.{sheetLines}
 use Rattle.sheet.specs.Writing.{writeLines, sheetWritten, writeVerdict, numbersOf, fieldsOf}
 use Rattle.sheet.specs.Cases.{small, edges}

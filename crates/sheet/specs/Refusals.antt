@@ -6,7 +6,7 @@ use mathlib.Core.List.{List, [], _∷_, _++_}
 use lib.Dec.{ltb, eqb}
 use lib.ListN.{length}
 use Rattle.sheet.specs.Numbers.{numbersRead}
-use Rattle.sheet.specs.Sheets.{fieldLines}
+use Rattle.fields.specs.Refusals.{fieldLines}
 
 -- What comes first in the bytes: a byte that no number has at its place in it; the sheet's end; or the end of the last number wanted, that is, the
 -- place after it.

@@ -11,7 +11,7 @@ use Rattle.verdict.specs.Refusals.{firstOf}
 use Rattle.sheet.specs.declared.Written.{Written}
 use Rattle.sheet.specs.declared.Written.the-variants.{Made, Refused}
 use Rattle.sheet.specs.Numbers.{written}
-use Rattle.sheet.specs.Sheets.{fieldLines}
+use Rattle.fields.specs.Refusals.{fieldLines}
 
 -- Refusals 4 to 7 as the reader gives them, then 15: the buffer has fewer bytes than the sheet.
 abbrev pub writeLines : List ℕ → ℕ → List (Bool × ℕ × ℕ)

@@ -6,7 +6,7 @@ use denote.Ref.{now}
 use lib.ListN.{length, take, replicate}
 use Rattle.verdict.specs.declared.Verdict.the-variants.{Accepted}
 use Rattle.sheet.specs.Numbers.{written}
-use Rattle.sheet.specs.Sheets.{fieldsVerdict}
+use Rattle.fields.specs.Refusals.{fieldsVerdict}
 use Rattle.sheet.proofs.Lengths.{written-length}
 use Rattle.sheet.proofs.Answers.{refused-on, short-on, accepted-on, write-refused, write-copied, write-put, bytes-taken}
 use borrow.Author.Needs.{needs}

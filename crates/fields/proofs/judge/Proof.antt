@@ -1,15 +1,15 @@
--- `sheet::judge` meets its contract: no field is at fault where the season is made, so it is in its ranges (proofs/Ranges.antt).
+-- `fields::judge` meets its contract: no field is at fault where the season is made, so it is in its ranges (proofs/Ranges.antt).
 use mathlib.Core.Path.{_≡_, sym, ap, _∙_}
 use native.Mathlib.Omega.{arith}
 use borrow.Author.Tests.{ltb-true, ltb-false}
-use Rattle.sheet.specs.Sheets.{fieldAtFault}
-use Rattle.sheet.proofs.Ranges.{season-ranged}
-use Rattle.sheet.proofs.Verdicts.{fault-refused, chain}
+use Rattle.fields.specs.Refusals.{fieldAtFault}
+use Rattle.fields.proofs.Ranges.{season-ranged}
+use Rattle.fields.proofs.Verdicts.{fault-refused, chain}
 use Rattle.season.specs.Sheet.{Ranged}
 use Rattle.verdict.specs.declared.Verdict.the-variants.{Refused}
 use borrow.Author.Needs.{needs}
-use Rattle.sheet.proofs.judge.Statement.{statement}
-use Rattle.sheet.proofs.judge.Tie as tie
+use Rattle.fields.proofs.judge.Statement.{statement}
+use Rattle.fields.proofs.judge.Tie as tie
 
 any-outside-requires : tie.Need-any-outside-requires
 any-outside-requires c κs = search needs

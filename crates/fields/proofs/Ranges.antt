@@ -1,22 +1,18 @@
 -- Numbers of which none is outside its limits: each is within them, and the season that they make is in its ranges.
-use Prim.Native.Nat.{ℕ, zero, suc, _+_, _-_, _^_, _≤_, _<_}
+use Prim.Native.Nat.{ℕ, zero, suc, _+_, _≤_, _<_}
 use mathlib.Core.Path.{_≡_, refl, sym, ap, _∙_}
 use mathlib.Core.Bool.{Bool, true, false, _||_, true≢false}
 use mathlib.Core.List.{List, [], _∷_}
 use native.Mathlib.Nat.{le-of-suc-le-suc, not-suc-le-zero}
 use native.Mathlib.Omega.{arith}
 use borrow.Author.Tests.{ltb-false}
-use lib.Dec.{T, ltb, leb, leb→le, lit<}
-use lib.ListN.{length, drop, getD, List·getD-eq-default}
-use mathlib.Core.Logic.{inl, inr}
-use Rattle.leb128.proofs.Steps.{lt-or-le}
-use Rattle.season.proofs.Each.{both, both-left, both-right, all-le}
-use Rattle.season.specs.Calendar.{lengths}
+use lib.Dec.{T, ltb, lit<}
+use lib.ListN.{length, getD}
 use Rattle.season.specs.Sheet.{Ranged, Within}
-use Rattle.sheet.specs.declared.Limit.{Limit}
-use Rattle.sheet.specs.Fields.{limits, outside, lowestOutside, seasonOf}
-use Rattle.sheet.specs.Sheets.{fieldAtFault}
-use Rattle.sheet.proofs.Lowest.{step-true, step-false}
+use Rattle.fields.specs.declared.Limit.{Limit}
+use Rattle.fields.specs.Fields.{limits, outside, lowestOutside, seasonOf}
+use Rattle.fields.specs.Refusals.{fieldAtFault}
+use Rattle.fields.proofs.Lowest.{step-true, step-false}
 
 -- The number x is within the limit l.
 pub record Inside (l : Limit) (x : ℕ) : Type 0 where
@@ -42,7 +38,7 @@ none-outside i l ls v vs e = go (outside l v) refl
     go false o = (o, ap (λ (j : ℕ). lowestOutside j ls vs) (omega arith) ∙ sym (step-false (suc i) l ls v vs o) ∙ e)
 
 -- Where no field is at fault, each is within its limits.
-pub all-inside : (i : ℕ) (ls : List Limit) (vs : List ℕ) → lowestOutside (suc i) ls vs ≡ 0
+all-inside : (i : ℕ) (ls : List Limit) (vs : List ℕ) → lowestOutside (suc i) ls vs ≡ 0
     → (k : ℕ) → k < length ls → k < length vs → Inside (getD ls k (0, 0)) (getD vs k 0)
 all-inside i [] vs e k p q = absurd (not-suc-le-zero p)
 all-inside i (l ∷ ls) [] e k p q = absurd (not-suc-le-zero q)
@@ -60,19 +56,16 @@ up-to b [] u k = omega arith
 up-to b (x ∷ xs) u zero = u .0
 up-to b (x ∷ xs) u (suc k) = up-to b xs (u .1) k
 
-below : (k : ℕ) → T (ltb k 40) → k < 40
-below k t = lit< t
-
 -- The season of forty numbers of which none is at fault.
 module _ (f : List ℕ) (n : length f ≡ 40) (e : fieldAtFault f ≡ 0) where
-  pub field-inside : (k : ℕ) → T (ltb k 40) → Inside (getD (limits (getD f 0 0)) k (0, 0)) (getD f k 0)
-  field-inside k t = all-inside 0 (limits (getD f 0 0)) f e k (below k t) (omega (arith, below k t))
+  pub field-inside : (k : ℕ) → k < 40 → Inside (getD (limits (getD f 0 0)) k (0, 0)) (getD f k 0)
+  field-inside k l = all-inside 0 (limits (getD f 0 0)) f e k l (omega arith)
 
   at-most : (k : ℕ) → T (ltb k 40) → getD f k 0 ≤ getD (limits (getD f 0 0)) k (0, 0) .1
-  at-most k t = field-inside k t .high
+  at-most k t = field-inside k (lit< t) .high
 
   within : (k : ℕ) → T (ltb k 40) → Within (getD (limits (getD f 0 0)) k (0, 0) .0) (getD (limits (getD f 0 0)) k (0, 0) .1) (getD f k 0)
-  within k t = record { low≤ = field-inside k t .low; ≤high = field-inside k t .high }
+  within k t = let i = field-inside k (lit< t) in record { low≤ = i .low; ≤high = i .high }
 
   pub season-ranged : Ranged (seasonOf f)
   season-ranged = record {
@@ -95,27 +88,3 @@ module _ (f : List ℕ) (n : length f ≡ 40) (e : fieldAtFault f ≡ 0) where
     opening = at-most 38 tt;
     turns = at-most 39 tt;
   }
-
-abbrev low-enough : ℕ → List Limit → Bool
-low-enough b [] = true
-low-enough b (l ∷ ls) = both (leb (l .1) b) (low-enough b ls)
-
--- The highest limits are small.
-high-up : (b : ℕ) (ls : List Limit) → T (low-enough b ls) → (k : ℕ) → getD ls k (0, 0) .1 ≤ b
-high-up b [] t k = omega arith
-high-up b (l ∷ ls) t zero = leb→le (l .1) b (both-left (leb (l .1) b) (low-enough b ls) t)
-high-up b (l ∷ ls) t (suc k) = high-up b ls (both-right (leb (l .1) b) (low-enough b ls) t) k
-
-limits-high : (month k : ℕ) → getD (limits month) k (0, 0) .1 ≤ 120000
-limits-high month zero = omega arith
-limits-high month (suc zero) = omega (arith, all-le 31 lengths tt (month - 1))
-limits-high month (suc (suc k)) = high-up 120000 (drop 2 (limits month)) tt k
-
-pub fields-small : (f : List ℕ) → length f ≡ 40 → fieldAtFault f ≡ 0 → (k : ℕ) → getD f k 0 < 2 ^ 21
-fields-small f n e k =
-    elim (lt-or-le k 40) [
-      | inl l ↦
-          let i = all-inside 0 (limits (getD f 0 0)) f e k l (omega arith) in
-          omega (arith, limits-high (getD f 0 0) k, i .high)
-      | inr m ↦ let z : getD f k 0 ≡ 0 = List·getD-eq-default f 0 {n = k} (omega arith) in omega arith
-    ]

@@ -1,7 +1,7 @@
 -- Each field is read at its place, and the months' numbers by `months`.
 use borrow.Author.Needs.{needs}
-use Rattle.sheet.proofs.season_of.Statement.{statement}
-use Rattle.sheet.proofs.season_of.Tie as tie
+use Rattle.fields.proofs.season_of.Statement.{statement}
+use Rattle.fields.proofs.season_of.Tie as tie
 
 returns : tie.Need-returns
 returns c =

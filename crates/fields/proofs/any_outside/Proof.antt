@@ -1,12 +1,12 @@
--- `sheet::any_outside` meets its contract: the loop is `Looked` of proofs/Lowest.antt.
+-- `fields::any_outside` meets its contract: the loop is `Looked` of proofs/Lowest.antt.
 use borrow.Author.Needs.{needs}
 use Prim.Native.Nat.{_-_}
 use mathlib.Core.Path.{refl}
 use lib.ListN.{getD}
-use Rattle.sheet.specs.Fields.{limits}
-use Rattle.sheet.proofs.Lowest.{Looked, look-start, look-on, look-end}
-use Rattle.sheet.proofs.any_outside.Statement.{statement}
-use Rattle.sheet.proofs.any_outside.Tie as tie
+use Rattle.fields.specs.Fields.{limits}
+use Rattle.fields.proofs.Lowest.{Looked, look-start, look-on, look-end}
+use Rattle.fields.proofs.any_outside.Statement.{statement}
+use Rattle.fields.proofs.any_outside.Tie as tie
 
 abbrev Inv-loop : tie.InvT-loop
 Inv-loop fields by-field wrong₀ k₀ wrong k = Looked (limits (getD fields 0 0)) fields wrong k

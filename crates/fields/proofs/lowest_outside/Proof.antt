@@ -1,12 +1,12 @@
--- `sheet::lowest_outside` meets its contract: the loop is `Searched` of proofs/Lowest.antt.
+-- `fields::lowest_outside` meets its contract: the loop is `Searched` of proofs/Lowest.antt.
 use borrow.Author.Needs.{needs}
 use Prim.Native.Nat.{_-_}
 use mathlib.Core.Path.{_≡_, sym, refl, _∙_}
 use lib.ListN.{getD}
-use Rattle.sheet.specs.Fields.{limits, outside}
-use Rattle.sheet.proofs.Lowest.{Searched, search-start, search-found, search-on, search-none}
-use Rattle.sheet.proofs.lowest_outside.Statement.{statement}
-use Rattle.sheet.proofs.lowest_outside.Tie as tie
+use Rattle.fields.specs.Fields.{limits, outside}
+use Rattle.fields.proofs.Lowest.{Searched, search-start, search-found, search-on, search-none}
+use Rattle.fields.proofs.lowest_outside.Statement.{statement}
+use Rattle.fields.proofs.lowest_outside.Tie as tie
 
 abbrev Inv-loop : tie.InvT-loop
 Inv-loop fields by-field i₀ i = Searched (limits (getD fields 0 0)) fields i

@@ -6,7 +6,7 @@ use lib.Dec.{ltb}
 use lib.ListN.{getD, replicate}
 use Rattle.season.specs.Calendar.{monthDays}
 use Rattle.season.specs.declared.Season.{Season}
-use Rattle.sheet.specs.declared.Limit.{Limit}
+use Rattle.fields.specs.declared.Limit.{Limit}
 
 -- The lowest and the highest number of each field: 1; 2, which goes to the month's length; 3 to 6; 7 to 9; 10 to 21; 22 to 33; 34 to 40.
 abbrev pub limits : ℕ → List Limit

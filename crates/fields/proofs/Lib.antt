@@ -1,0 +1,4 @@
+pub mod Lowest
+pub mod Ranges
+pub mod Verdicts
+pub mod Claims
