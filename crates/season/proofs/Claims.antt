@@ -16,7 +16,8 @@ use Rattle.season.proofs.Each.{all-le}
 use Rattle.season.proofs.Laws.{quotient-up}
 use Rattle.season.proofs.Ramp.{ramp-pos}
 use Rattle.season.proofs.Bounds.{need-le, rain-le, total-le}
-use Rattle.season.proofs.Closing.{balance, stays-within, total-up, ready-below}
+use Rattle.season.proofs.Closing.{balance, stays-within, total-up, ready-below, use-le}
+use Rattle.season.proofs.Losing.{loss-at-most, loss-floor, loss-full, loss-none, half-met}
 
 rounded : (top bottom : ℕ) → 0 < bottom
     → (2 * bottom * nearest top bottom ≤ 2 * top + bottom) × (2 * top < 2 * bottom * nearest top bottom + bottom)
@@ -73,6 +74,12 @@ claims = record {
   ready-never-falls = ready-up;
   water-equation = balance;
   depletion-at-most-total = stays-within;
+  use-at-most-need = use-le;
+  loss-at-most = loss-at-most;
+  loss-floor = loss-floor;
+  loss-full = loss-full;
+  loss-none = loss-none;
+  half-met = half-met;
   gross-is-ceiling = ceiling;
   small-valid = small-valid;
 }

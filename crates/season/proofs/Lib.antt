@@ -11,4 +11,5 @@ pub mod Bounds
 pub mod Days
 pub mod Along
 pub mod Closing
+pub mod Losing
 pub mod Claims

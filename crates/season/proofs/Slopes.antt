@@ -1,63 +1,78 @@
 -- The stages of a season: the coefficient's slope on each day, how large it is, and that it goes on to the next day of the stage.
-use mathlib.Core.Bool.{Bool, true, false, cond}
-use mathlib.Core.Path.{_≡_, refl, sym, _∙_, ap}
+use mathlib.Core.Path.{_≡_, refl, sym, _∙_, ap, subst}
 use Prim.Native.Nat.{ℕ, _+_, _-_, _*_, _≤_, _<_}
 use native.Mathlib.Omega.{arith}
-use lib.Dec.{leb}
 use lib.IntN.{pos, natAbs, _+ℤ_}
 use borrow.Author.Tests.{le-leb, lt-leb}
 use Rattle.season.specs.declared.Season.{Season}
 use Rattle.season.specs.declared.Slope.{Slope}
+use Rattle.season.specs.declared.Stage.{Stage}
+use Rattle.season.specs.declared.Stage.the-variants.{Initial, Development, Middle, Late}
 use Rattle.season.specs.Sheet.{Within, Ranged, DayOf, seasonDays}
 use Rattle.season.specs.Carried.{constant, sloping, slopeOf}
-use Rattle.season.specs.Day.{inStage, kcOf, ratio}
+use Rattle.season.specs.Day.{stageOf, ofStage, inStage, kcOf, ratio}
 use Rattle.season.proofs.Whole.{by-order, natAbs-diff}
 use Rattle.season.proofs.Ramp.{ramp-le, ramp-next}
 
--- The choice of the stage, in each of the four.
-module _ {A : Type 0} (level : ℕ → ℕ → ℕ → A) (slope : ℕ → ℕ → ℕ → ℕ → A) (s : Season) (i : ℕ) where
-  pub in-initial : i ≤ s .initial → inStage level slope s i ≡ level (s .kcini) (s .initial) i
-  unfolding inStage
-  in-initial h = simp (le-leb _ _ h)
+-- The days of a stage.
+abbrev pub DaysOf : Season → ℕ → Stage → Type 0
+DaysOf s i Initial = i ≤ s .initial
+DaysOf s i Development = (s .initial < i) × (i ≤ s .initial + s .development)
+DaysOf s i Middle = (s .initial + s .development < i) × (i ≤ s .initial + s .development + s .middle)
+DaysOf s i Late = s .initial + s .development + s .middle < i
 
-  pub in-development : s .initial < i → i ≤ s .initial + s .development
-      → inStage level slope s i ≡ slope (s .kcini) (s .kcmid) (s .development) (i - s .initial)
-  unfolding inStage
-  in-development l h = simp (lt-leb _ _ l, le-leb _ _ h)
+-- The stage, by a day's place among the stages' days.
+pub stage-is : (s : Season) (i : ℕ) (g : Stage) → DaysOf s i g → stageOf s i ≡ g
+unfolding stageOf
+stage-is s i Initial h = simp (le-leb _ _ h)
+stage-is s i Development h = simp (lt-leb _ _ (h .0), le-leb _ _ (h .1))
+stage-is s i Middle h =
+    let l₁ : s .initial < i = omega arith in
+    simp (lt-leb _ _ l₁, lt-leb _ _ (h .0), le-leb _ _ (h .1))
+stage-is s i Late h =
+    let l₁ : s .initial < i = omega arith in
+    let l₂ : s .initial + s .development < i = omega arith in
+    simp (lt-leb _ _ l₁, lt-leb _ _ l₂, lt-leb _ _ h)
 
-  pub in-middle : s .initial + s .development < i → i ≤ s .initial + s .development + s .middle
-      → inStage level slope s i ≡ level (s .kcmid) (s .middle) (i - (s .initial + s .development))
-  unfolding inStage
-  in-middle l h =
-      let l₁ : s .initial < i = omega arith in
-      simp (lt-leb _ _ l₁, lt-leb _ _ l, le-leb _ _ h)
+-- And the days, by their stage.
+of-stage : (s : Season) (i : ℕ) → DaysOf s i (stageOf s i)
+of-stage s i =
+    by-order (s .initial) i
+    (λ h. rw (stage-is s i Initial h) h)
+    (λ l₁. by-order (s .initial + s .development) i
+    (λ h. rw (stage-is s i Development (l₁, h)) (l₁, h))
+    (λ l₂. by-order (s .initial + s .development + s .middle) i
+    (λ h. rw (stage-is s i Middle (l₂, h)) (l₂, h))
+    (λ l₃. rw (stage-is s i Late l₃) l₃)))
 
-  pub in-late : s .initial + s .development + s .middle < i
-      → inStage level slope s i ≡ slope (s .kcmid) (s .kcend) (s .late) (i - (s .initial + s .development + s .middle))
-  unfolding inStage
-  in-late l =
-      let l₁ : s .initial < i = omega arith in
-      let l₂ : s .initial + s .development < i = omega arith in
-      simp (lt-leb _ _ l₁, lt-leb _ _ l₂, lt-leb _ _ l)
+pub days-of : (s : Season) (i : ℕ) (g : Stage) → stageOf s i ≡ g → DaysOf s i g
+days-of s i g e = subst (DaysOf s i) e (of-stage s i)
+
+-- What is made of the numbers of a day of stage g.
+in-stage : {A : Type 0} (level : ℕ → ℕ → ℕ → A) (slope : ℕ → ℕ → ℕ → ℕ → A) (s : Season) (i : ℕ) (g : Stage) → stageOf s i ≡ g
+    → inStage level slope s i ≡ ofStage level slope s i g
+unfolding inStage
+in-stage level slope s i g e = ap (ofStage level slope s i) e
 
 -- What is made of the stage's choice is a choice of what is made.
-of-choice : {A B : Type 0} (f : A → B) (a b c : Bool) (w x y z : A)
-    → f (cond a w (cond b x (cond c y z))) ≡ cond a (f w) (cond b (f x) (cond c (f y) (f z)))
-of-choice f true b c w x y z = refl
-of-choice f false true c w x y z = refl
-of-choice f false false true w x y z = refl
-of-choice f false false false w x y z = refl
-
-of-stage : {A B : Type 0} (f : A → B) (level : ℕ → ℕ → ℕ → A) (slope : ℕ → ℕ → ℕ → ℕ → A) (s : Season) (i : ℕ)
+of-choice : {A B : Type 0} (f : A → B) (level : ℕ → ℕ → ℕ → A) (slope : ℕ → ℕ → ℕ → ℕ → A) (s : Season) (i : ℕ)
     → f (inStage level slope s i) ≡ inStage (λ kc l k. f (level kc l k)) (λ kp kn l k. f (slope kp kn l k)) s i
 unfolding inStage
-of-stage f level slope s i =
-    of-choice f (leb i (s .initial)) (leb i (s .initial + s .development)) (leb i (s .initial + s .development + s .middle)) _ _ _ _
+of-choice f level slope s i = go (stageOf s i)
+  where
+    go : (g : Stage) → f (ofStage level slope s i g) ≡ ofStage (λ kc l k. f (level kc l k)) (λ kp kn l k. f (slope kp kn l k)) s i g
+    go Initial = refl
+    go Development = refl
+    go Middle = refl
+    go Late = refl
 
 module _ (s : Season) (i : ℕ) where
-  pub slope-in : i ≤ seasonDays s → slopeOf s i ≡ inStage constant sloping s i
+  slope-in : i ≤ seasonDays s → slopeOf s i ≡ inStage constant sloping s i
   unfolding slopeOf
   slope-in h = simp (le-leb _ _ h)
+
+  pub slope-of-stage : (g : Stage) → i ≤ seasonDays s → stageOf s i ≡ g → slopeOf s i ≡ ofStage constant sloping s i g
+  slope-of-stage g h e = slope-in h ∙ in-stage constant sloping s i g e
 
   pub past-season : seasonDays s < i → slopeOf s i ≡ constant 0 0 0
   unfolding slopeOf
@@ -66,7 +81,7 @@ module _ (s : Season) (i : ℕ) where
   -- Kc is the slope's quotient.
   pub kc-slope : DayOf s i → kcOf s i ≡ ratio (slopeOf s i .top) (slopeOf s i .bottom)
   unfolding kcOf inStage
-  kc-slope d = rw (slope-in (d .to)) (sym (of-stage (λ k. ratio (k .top) (k .bottom)) constant sloping s i))
+  kc-slope d = rw (slope-in (d .to)) (sym (of-choice (λ k. ratio (k .top) (k .bottom)) constant sloping s i))
 
 -- Day i is day k of a stage of L days whose slopes are f. Where it is not the last of them, the next day is day k + 1.
 record Stays (s : Season) (i l k : ℕ) (f : ℕ → Slope) : Type 0 where
@@ -91,15 +106,15 @@ by-stage {ℓ} : {P : Type ℓ} (s : Season) (i : ℕ) → Ranged s → i ≤ se
 by-stage s i r to level slope =
     by-order (s .initial) i
     (λ h. level _ _ _ (r .kcini .≤high)
-    (stays s i 0 _ _ (λ j from to. in-initial constant sloping s j (omega arith) ∙ ap (constant _ _) (omega arith)) (omega arith) (omega arith) (omega arith)))
+    (stays s i 0 _ _ (λ j from to. in-stage constant sloping s j Initial (stage-is s j Initial (omega arith)) ∙ ap (constant _ _) (omega arith)) (omega arith) (omega arith) (omega arith)))
     (λ l₁. by-order (s .initial + s .development) i
     (λ h. slope _ _ _ _ (r .kcini .≤high) (r .kcmid .≤high) (r .development)
-    (stays s i (s .initial) _ _ (λ j from to. in-development constant sloping s j (omega arith) to) (omega arith) h (omega arith)))
+    (stays s i (s .initial) _ _ (λ j from to. in-stage constant sloping s j Development (stage-is s j Development (omega arith, to))) (omega arith) h (omega arith)))
     (λ l₂. by-order (s .initial + s .development + s .middle) i
     (λ h. level _ _ _ (r .kcmid .≤high)
-    (stays s i (s .initial + s .development) _ _ (λ j from to. in-middle constant sloping s j (omega arith) to) (omega arith) h (omega arith)))
+    (stays s i (s .initial + s .development) _ _ (λ j from to. in-stage constant sloping s j Middle (stage-is s j Middle (omega arith, to))) (omega arith) h (omega arith)))
     (λ l₃. slope _ _ _ _ (r .kcmid .≤high) (r .kcend .≤high) (r .late)
-    (stays s i (s .initial + s .development + s .middle) _ _ (λ j from to. in-late constant sloping s j (omega arith)) (omega arith) to (omega arith)))))
+    (stays s i (s .initial + s .development + s .middle) _ _ (λ j from to. in-stage constant sloping s j Late (stage-is s j Late (omega arith))) (omega arith) to (omega arith)))))
 
 -- A coefficient of at most 200 hundredths, over at most 200 days.
 pub record Small (k : Slope) : Type 0 where

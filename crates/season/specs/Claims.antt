@@ -1,6 +1,6 @@
 -- What is proved of this crate's definitions. `claims`, in proofs/Claims.antt, has a proof of each field.
 use mathlib.Core.Path.{_≡_}
-use Prim.Native.Nat.{ℕ, _+_, _*_, _≤_, _<_}
+use Prim.Native.Nat.{ℕ, _+_, _-_, _*_, _≤_, _<_}
 use lib.IntN.{pos}
 use Rattle.season.specs.declared.Season.{Season}
 use Rattle.season.specs.declared.Net.{Net}
@@ -8,6 +8,7 @@ use Rattle.season.specs.Sheet.{Valid, DayOf}
 use Rattle.season.specs.Rules.{rampZ, ramp, nearest}
 use Rattle.season.specs.Day.{cropNeed, rainOn, totalOn, readyOn}
 use Rattle.season.specs.Closing.{closeDay}
+use Rattle.season.specs.Loss.{lossOf}
 use Rattle.season.specs.Depths.{grossOf}
 use Rattle.season.specs.SmallSheet.{small}
 
@@ -28,6 +29,16 @@ pub record Claims : Type 0 where
   -- Closing a day loses no water, and keeps the depletion at most T.
   pub water-equation : (d w c t r : ℕ) → d + closeDay d w c t r .used + closeDay d w c t r .percolated ≡ closeDay d w c t r .depletion + w
   pub depletion-at-most-total : (d w c t r : ℕ) → d ≤ t → closeDay d w c t r .depletion ≤ t
+  -- A crop uses no more than it needs.
+  pub use-at-most-need : (d w c t r : ℕ) → r < t → closeDay d w c t r .used ≤ c
+  -- The loss is the floor of 100 × Ky × (F − U) / F up to 10,000, the whole yield, and no more. Of equal sums it is none; with Ky 100 and half the need
+  -- met it is a half.
+  pub loss-at-most : (ky f u : ℕ) → lossOf ky f u ≤ 10000
+  pub loss-floor : (ky f u : ℕ) → 0 < f → lossOf ky f u < 10000
+      → (lossOf ky f u * f ≤ 100 * ky * (f - u)) × (100 * ky * (f - u) < (lossOf ky f u + 1) * f)
+  pub loss-full : (ky f u : ℕ) → 0 < f → 10000 * f ≤ 100 * ky * (f - u) → lossOf ky f u ≡ 10000
+  pub loss-none : (ky f : ℕ) → lossOf ky f f ≡ 0
+  pub half-met : (u : ℕ) → 0 < u → lossOf 100 (2 * u) u ≡ 5000
   -- The gross depth is the smallest that gives the net depth at the efficiency.
   pub gross-is-ceiling : (e : ℕ) (net : Net) → 1 ≤ e → (net .0 * 100 ≤ grossOf e net .0 * e) × (grossOf e net .0 * e < net .0 * 100 + e)
   -- The ranges are met: by the small sheet, whatever its turns.

@@ -12,10 +12,10 @@ wanted d1 c t r = cond (leb d1 r) c (c * (t - d1) / (t - r))
 abbrev pub cropUse : ℕ → ℕ → ℕ → ℕ → ℕ
 cropUse d1 c t r = min (wanted d1 c t r) (t - d1)
 
--- Percolation is max(0, W − D), D1 = max(0, D − W), and the new depletion is D1 + U.
+-- Percolation is max(0, W − D), D1 = max(0, D − W), and the new depletion is D1 + U. The need C is answered beside the use (request T-03).
 unfoldable pub closeDay : ℕ → ℕ → ℕ → ℕ → ℕ → DayClose
 closeDay d w c t r =
-    record { used = cropUse (d - w) c t r; percolated = w - d; depletion = (d - w) + cropUse (d - w) c t r }
+    record { need = c; used = cropUse (d - w) c t r; percolated = w - d; depletion = (d - w) + cropUse (d - w) c t r }
 
 -- What a caller has of the five numbers on a day of an accepted season (`closable`, proofs/Closing.antt).
 pub record Closable (d w c t r : ℕ) : Type 0 where

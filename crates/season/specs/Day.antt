@@ -1,7 +1,7 @@
 -- Document 01, 'A day's numbers': season day i.
-use mathlib.Core.Bool.{cond}
+use mathlib.Core.Bool.{Bool, cond}
 use Prim.Native.Nat.{ℕ, _+_, _-_, _*_, _≤_}
-use lib.Dec.{leb}
+use lib.Dec.{leb, eqb}
 use lib.ListN.{getD}
 use Rattle.season.specs.Calendar.{dateIs, daysOn, monthDays}
 use Rattle.season.specs.Sheet.{Valid}
@@ -9,6 +9,8 @@ use Rattle.season.specs.Rules.{ramp, nearest, rootDepth, readyPart, effe
 use Rattle.season.specs.declared.Season.{Season}
 use Rattle.season.specs.declared.Date.{Date}
 use Rattle.season.specs.declared.Kc.{Kc}
+use Rattle.season.specs.declared.Stage.{Stage}
+use Rattle.season.specs.declared.Stage.the-variants.{Initial, Development, Middle, Late}
 
 -- Day 1 is the start.
 unfoldable pub dateOf : Season → ℕ → Date
@@ -17,14 +19,35 @@ dateOf s i = daysOn (dateIs (s .month) (s .first)) (i - 1)
 abbrev pub ratio : ℕ → ℕ → Kc
 ratio t b = record { top = t; bottom = b }
 
--- The stage of day i, which is day k of the stage's L days. Initial: Kc ini; mid: Kc mid. Development goes from Kc ini to Kc mid, late from
--- Kc mid to Kc end. `level kc l k` and `slope kp kn l k` are what is made of these numbers.
+-- The stage of day i. The last day of a stage is in it.
+unfoldable pub stageOf : Season → ℕ → Stage
+stageOf s i =
+    cond (leb i (s .initial)) Initial
+    (cond (leb i (s .initial + s .development)) Development
+    (cond (leb i (s .initial + s .development + s .middle)) Middle
+    Late))
+
+-- The stages by their order, and whether two are the same.
+abbrev pub stageNumber : Stage → ℕ
+stageNumber Initial = 1
+stageNumber Development = 2
+stageNumber Middle = 3
+stageNumber Late = 4
+
+abbrev pub sameStage : Stage → Stage → Bool
+sameStage g h = eqb (stageNumber g) (stageNumber h)
+
+-- Day i is day k of its stage's L days. Initial: Kc ini; mid: Kc mid. Development goes from Kc ini to Kc mid, late from Kc mid to Kc end.
+-- `level kc l k` and `slope kp kn l k` are what is made of these numbers.
+abbrev pub ofStage : {A : Type 0} → (ℕ → ℕ → ℕ → A) → (ℕ → ℕ → ℕ → ℕ → A) → Season → ℕ → Stage → A
+ofStage level slope s i Initial = level (s .kcini) (s .initial) i
+ofStage level slope s i Development = slope (s .kcini) (s .kcmid) (s .development) (i - s .initial)
+ofStage level slope s i Middle = level (s .kcmid) (s .middle) (i - (s .initial + s .development))
+ofStage level slope s i Late = slope (s .kcmid) (s .kcend) (s .late) (i - (s .initial + s .development + s .middle))
+
 unfoldable pub inStage : {A : Type 0} → (ℕ → ℕ → ℕ → A) → (ℕ → ℕ → ℕ → ℕ → A) → Season → ℕ → A
-inStage level slope s i =
-    cond (leb i (s .initial)) (level (s .kcini) (s .initial) i)
-    (cond (leb i (s .initial + s .development)) (slope (s .kcini) (s .kcmid) (s .development) (i - s .initial))
-    (cond (leb i (s .initial + s .development + s .middle)) (level (s .kcmid) (s .middle) (i - (s .initial + s .development)))
-    (slope (s .kcmid) (s .kcend) (s .late) (i - (s .initial + s .development + s .middle)))))
+unfolding stageOf
+inStage level slope s i = ofStage level slope s i (stageOf s i)
 
 -- Kc in hundredths, as a fraction: nothing is rounded here.
 unfoldable pub kcOf : Season → ℕ → Kc

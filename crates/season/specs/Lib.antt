@@ -4,6 +4,7 @@ pub mod Sheet
 pub mod Rules
 pub mod Day
 pub mod Closing
+pub mod Loss
 pub mod Depths
 pub mod Carried
 pub mod SmallSheet

@@ -28,6 +28,7 @@ pub fn close_day(depletion: u32, water: u32, need: u32, total: u32, ready: u32) 
     let d1 = saturating_sub(depletion, water);
     let used = crop_use(d1, need, total, ready);
     DayClose {
+        need,
         used,
         percolated: saturating_sub(water, depletion),
         depletion: d1 + used,

@@ -3,15 +3,17 @@ use crate::Kc;
 use crate::Season;
 use crate::SeasonDay;
 use crate::Slope;
+use crate::Stage;
 use crate::numbers::quotient;
 use crate::numbers::raised;
 use crate::numbers::saturating_sub;
+use crate::season_days;
 ghost use mathlib.Core.Path.{_≡_};
 ghost use Prim.Native.Nat.{_≤_};
 ghost use Rattle.season.specs.Sheet.{Ranged, Valid, DayOf};
 ghost use Rattle.season.specs.Rules.{effectiveRain, rainTo};
 ghost use Rattle.season.specs.Carried.{constant, sloping, slopeOf, OnDay};
-ghost use Rattle.season.specs.Day.{kcOf, cropNeed, rootOn, totalOn, readyOn};
+ghost use Rattle.season.specs.Day.{stageOf, kcOf, cropNeed, rootOn, totalOn, readyOn};
 
 // Day k of a stage of L days with one coefficient.
 fn constant_on(kc: u32, days: u32, day: u32) -> Slope
@@ -40,27 +42,40 @@ fn sloping_on(before: u32, after: u32, days: u32, day: u32) -> Slope
     }
 }
 
+pub fn stage_of(s: Season, day: u32) -> Stage
+    requires { ⌜ Ranged s ⌝ }
+    ensures { λ r. ⌜ r ≡ stageOf s day ⌝ }
+{
+    let sown = s.initial;
+    let grown = sown + s.development;
+    if day <= sown {
+        return Stage::Initial;
+    }
+    if day <= grown {
+        return Stage::Development;
+    }
+    if day <= grown + s.middle {
+        return Stage::Middle;
+    }
+    Stage::Late
+}
+
 // The slope on a day. Past the season there is no stage, and no day to go on to.
 pub fn slope_of(s: Season, day: u32) -> Slope
     requires { ⌜ Ranged s ⌝ }
     ensures { λ r. ⌜ r ≡ slopeOf s day ⌝ }
 {
-    let sown = s.initial;
-    let grown = sown + s.development;
+    if season_days(s) < day {
+        return constant_on(0, 0, 0);
+    }
+    let grown = s.initial + s.development;
     let ripe = grown + s.middle;
-    if day <= sown {
-        return constant_on(s.kcini, s.initial, day);
+    match stage_of(s, day) {
+        Stage::Initial => constant_on(s.kcini, s.initial, day),
+        Stage::Development => sloping_on(s.kcini, s.kcmid, s.development, day - s.initial),
+        Stage::Middle => constant_on(s.kcmid, s.middle, day - grown),
+        Stage::Late => sloping_on(s.kcmid, s.kcend, s.late, day - ripe),
     }
-    if day <= grown {
-        return sloping_on(s.kcini, s.kcmid, s.development, day - sown);
-    }
-    if day <= ripe {
-        return constant_on(s.kcmid, s.middle, day - grown);
-    }
-    if day <= ripe + s.late {
-        return sloping_on(s.kcmid, s.kcend, s.late, day - ripe);
-    }
-    constant_on(0, 0, 0)
 }
 
 pub fn kc_of(s: Season, day: u32) -> Kc

@@ -5,6 +5,7 @@ mod close;
 mod dates;
 mod day;
 mod depths;
+mod loss;
 mod numbers;
 
 pub use carried::day_of;
@@ -20,8 +21,10 @@ pub use day::first_total;
 pub use day::kc_of;
 pub use day::rain_to;
 pub use day::ready_on;
+pub use day::stage_of;
 pub use day::total_on;
 pub use depths::gross_of;
+pub use loss::loss_of;
 pub use numbers::min;
 pub use numbers::saturating_sub;
 ghost use mathlib.Core.Path.{_≡_};
@@ -93,8 +96,17 @@ pub struct Kc {
     pub bottom: u32,
 }
 
-// What closing a day makes: crop use, percolation and the new depletion.
+// The stages of a season, in their order.
+pub enum Stage {
+    Initial,
+    Development,
+    Middle,
+    Late,
+}
+
+// What closing a day makes: the crop need, crop use, percolation and the new depletion.
 pub struct DayClose {
+    pub need: u32,
     pub used: u32,
     pub percolated: u32,
     pub depletion: u32,
