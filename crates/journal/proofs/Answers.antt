@@ -3,17 +3,20 @@ use Rattle.season.specs.Day.{AcceptedSeason}
 use Prim.Native.Nat.{_+_, _-_, _<_, _≤_, suc, ℕ}
 use mathlib.Core.Path.{_∙_, _≡_, ap, ap₂, refl, sym}
 use mathlib.Core.List.{List, [], _++_, _∷_}
-use mathlib.Core.Bool.{true}
+use mathlib.Core.Bool.{Bool, _||_, false, true, true≢false}
 use native.Mathlib.Omega.{arith}
 use lib.ListN.{drop, getD, length, length-append, length-drop, replicate, set, take}
 use lib.Seq.{drop-append-seam, drop-cons}
-use lib.Dec.{leb}
-use borrow.Author.Tests.{eq-eqb, le-leb, leb-true, lt-leb, ne-eqb}
+use lib.Dec.{leb, ltb}
+use borrow.Author.Tests.{eq-eqb, le-leb, leb-true, lt-leb, ltb-false, ne-eqb}
 use Rattle.verdict.specs.declared.Verdict.{Verdict}
 use Rattle.verdict.specs.declared.Verdict.the-variants.{Accepted}
+use Rattle.verdict.specs.Refusals.{firstOf}
+use Rattle.verdict.proofs.First.{accepted-fails}
 use Rattle.leb128.proofs.Parts.{tail-part}
 use Rattle.season.specs.declared.Season.{Season}
 use Rattle.season.specs.Sheet.{seasonDays}
+use Rattle.season.specs.Loss.{kyOutside}
 use Rattle.journal.specs.declared.Entry.{Entry}
 use Rattle.journal.specs.declared.Ledger.{Ledger}
 use Rattle.journal.specs.declared.Opening.{Opening}
@@ -25,6 +28,7 @@ use Rattle.journal.specs.Entries.{refusal}
 use Rattle.journal.specs.Opening.{behind, isBlank, opening, replayed, tornAt, trim, value}
 use Rattle.journal.specs.Specified.{clean}
 use Rattle.journal.specs.Calls.{recordedWith, mendOf, mended, mendedOn, noStores, recorded, recordedOn, wipePlaces, storesOf}
+use Rattle.journal.specs.Loss.{lossRefusals}
 use Rattle.journal.specs.Carried.{Bounded}
 use Rattle.journal.proofs.Beginnings.{torn-few}
 use Rattle.journal.proofs.Cases.{number, test}
@@ -56,11 +60,12 @@ found-clean days size l k s h =
     (λ i. test (tornAt days size l (trim s)) (λ j. absurd (let h′ = rw (i, behind, j) at h in let z : _≡_ {A = ℕ} 0 1 = cc in omega arith))
     (λ j. absurd (let h′ = rw (i, behind, j) at h in let z : _≡_ {A = ℕ} 0 1 = cc in omega arith)))
 
-found-torn : (days size : ℕ) (l k : Ledger) (p : ℕ) (s : List ℕ) → behind days size l s ≡ Torn k p → (l .place ≡ p) × (tornAt days size l (trim s) ≡ true)
+found-torn : (days size : ℕ) (l k : Ledger) (p : ℕ) (s : List ℕ) → behind days size l s ≡ Torn k p
+    → (l .place ≡ p) × (tornAt days size l (trim s) ≡ true) × (l ≡ k)
 unfolding behind
 found-torn days size l k p s h =
     test (isBlank s) (λ i. absurd (let h′ = rw (i, behind) at h in let z : _≡_ {A = ℕ} 0 1 = cc in omega arith))
-    (λ i. test (tornAt days size l (trim s)) (λ j. (let h′ = rw (i, behind, j) at h in cc, j))
+    (λ i. test (tornAt days size l (trim s)) (λ j. (let h′ = rw (i, behind, j) at h in cc, j, let h′ = rw (i, behind, j) at h in cc))
     (λ j. absurd (let h′ = rw (i, behind, j) at h in let z : _≡_ {A = ℕ} 0 1 = cc in omega arith)))
 
 module _ (s : Season) (area : List ℕ) (v : AcceptedSeason s) where
@@ -71,6 +76,15 @@ module _ (s : Season) (area : List ℕ) (v : AcceptedSeason s) where
       let h = sym q ∙ e in
       test (leb (length area) 8192)
       (λ i. let c = found-clean _ _ _ l _ (rw (i, opening) at h) in rw (← c) (replayed-within s area v (leb-true (length area) 8192 i)))
+      (λ i. absurd (let h′ = rw (i, opening) at h in let z : _≡_ {A = ℕ} 0 1 = cc in omega arith))
+
+  -- and so is a torn one's
+  pub torn-within : (o : Opening) (l : Ledger) (p : ℕ) → o ≡ opening s area → o ≡ Torn l p → Bounded s l
+  unfolding opening
+  torn-within o l p q e =
+      let h = sym q ∙ e in
+      test (leb (length area) 8192)
+      (λ i. let c = found-torn _ _ _ l p _ (rw (i, opening) at h) in rw (← c .2) (replayed-within s area v (leb-true (length area) 8192 i)))
       (λ i. absurd (let h′ = rw (i, opening) at h in let z : _≡_ {A = ℕ} 0 1 = cc in omega arith))
 
   -- a torn opening's place is in the area, and at most three bytes stand there before the FFs
@@ -213,3 +227,14 @@ wiped-all-done {tail} {place} {n} {places} {count} {i} w h =
 pub torn-tail : (s : Season) (area : List ℕ) (v : AcceptedSeason s) (p : ℕ) → TornHere s area v p
     → (length (trim (take (length area - p) (drop p area))) ≤ 3) × (p + length (take (length area - p) (drop p area)) ≤ 8192)
 torn-tail s area v p t = rw (tail-part p area) (t .short, rw length-drop (omega (arith, t .few, t .inside)))
+
+-- ---- loss
+
+or-false : (t u : Bool) → t || u ≡ false → u ≡ false
+or-false true u h = absurd (true≢false h)
+or-false false u h = h
+
+-- a factor that refusal 17 lets pass
+pub ky-most : (ky : ℕ) (torn : Bool) (place : ℕ) → firstOf Accepted (lossRefusals ky torn place) ≡ Accepted → ky ≤ 200
+ky-most ky torn place e =
+    ltb-false 200 ky (or-false (ltb ky 1) (ltb 200 ky) (accepted-fails (kyOutside ky) 17 0 ((torn, 10, place) ∷ []) e .0))

@@ -3,6 +3,7 @@ pub mod Entries
 pub mod Opening
 pub mod Specified
 pub mod Calls
+pub mod Loss
 pub mod Book
 pub mod History
 pub mod Sums
