@@ -26,6 +26,9 @@ use Rattle.journal.specs.Entries as journal
 use Rattle.journal.specs.Opening as opened
 use Rattle.journal.specs.Opening.{value, least, starts, entryOf, only, entryAt, replay, replayed, isBlank, trim, tornAt, behind, opening}
 use Rattle.journal.specs.Calls.{noStores, recordedWith, recorded, wipePlaces, notMended, mendedOn, mended, wipesIn, mendedNumbers}
+use Rattle.journal.specs.declared.Lost.{Lost}
+use Rattle.journal.specs.declared.Lost.the-variants as losing
+use Rattle.journal.specs.Loss.{lost, lossNumbers}
 use Rattle.journal.specs.Specified.{Opens}
 use Rattle.journal.specs.Claims.{OpeningOccurs, RecordedOccurs, MendedOccurs}
 use Rattle.journal.proofs.Claims as journals
@@ -39,12 +42,12 @@ use Rattle.decades.specs.declared.Tabled.the-variants as table
 use Rattle.decades.specs.Table.{tabled}
 use Rattle.planner.proofs.Claims as plans
 use Rattle.controller.specs.Calls.{plannedOn, sheetOpened, sheetRecorded, sheetMended, sheetPlanned, sheetTabled, onSheet}
-use Rattle.controller.specs.Refusals.{mendLines, openLines, entryLines, planLines, tableLines}
+use Rattle.controller.specs.Refusals.{mendLines, openLines, lossLines, entryLines, planLines, tableLines}
 use Rattle.controller.specs.Cases.{cases}
 use Rattle.controller.specs.Claims.{Claims}
 use Rattle.controller.proofs.Sheets.{on-sheet}
 use Rattle.controller.proofs.Demands.{opens, plan-right, demand-3}
-use Rattle.controller.proofs.Refusing.{sheet-verdict, numbers-refused, planVerdict, tableVerdict, open-verdict, entry-verdict, mend-verdict, plan-verdict, table-verdict, entry-refused, mend-refused, plan-refused-keeps, table-refused-keeps}
+use Rattle.controller.proofs.Refusing.{sheet-verdict, numbers-refused, planVerdict, tableVerdict, open-verdict, entry-verdict, mend-verdict, loss-verdict, plan-verdict, table-verdict, entry-refused, mend-refused, plan-refused-keeps, table-refused-keeps}
 
 -- The calls' two ways: a refused sheet, and an accepted season.
 module _ (sheet : List ℕ) where
@@ -113,6 +116,8 @@ claims = record {
       sheet-verdict (λ (r : Recorded). r .verdict) (λ number value. recordedWith (verdict.Refused number value) noStores) (λ s. recorded s area e) sheet (entryLines area e) (λ number value h. refl) (λ s o. entry-verdict s area e);
   mend-refuses = λ sheet area.
       sheet-verdict (λ (r : Mended). r .verdict) notMended (λ s. mended s area) sheet (mendLines area) (λ number value h. refl) (λ s o. mend-verdict s area);
+  loss-refuses = λ sheet area ky.
+      sheet-verdict (λ (r : Lost). verdictOf (lossNumbers r)) losing.Refused (λ s. lost s area ky) sheet (lossLines area ky) numbers-refused (λ s o. loss-verdict s area ky);
   plan-refuses = λ sheet area out.
       sheet-verdict planVerdict (λ number value. (planned.Refused number value, out)) (λ s. plannedOn s out (opening s area)) sheet (planLines area (length out)) numbers-refused (λ s o. plan-verdict s area out);
   table-refuses = λ sheet out.

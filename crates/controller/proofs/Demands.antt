@@ -10,11 +10,15 @@ use borrow.Author.Tests.{le-ltb}
 use Rattle.season.specs.declared.Season.{Season}
 use Rattle.season.specs.Sheet.{seasonDays}
 use Rattle.verdict.specs.declared.Verdict.the-variants as verdict
+use Rattle.verdict.specs.Refusals.{orRefused}
 use Rattle.sheet.specs.Sheets.{sheetOf}
 use Rattle.sheet.proofs.Accepted.{accepted-season}
 use Rattle.journal.specs.declared.Ledger.{Ledger}
 use Rattle.journal.specs.declared.Opening.the-variants as found
+use Rattle.journal.specs.declared.Lost.the-variants.{Parts}
+use Rattle.journal.specs.declared.Lost.the-variants as losing
 use Rattle.journal.specs.Entries.{waiting}
+use Rattle.journal.specs.Loss.{lossesOf, lostOn, lost}
 use Rattle.journal.specs.Opening.{opening}
 use Rattle.journal.specs.Calls.{noStores, recordedWith, recorded, notMended, mended}
 use Rattle.journal.specs.Book.{Step, emptyBook, ledgerOf, bookAfter, bookOpening, foundIn}
@@ -27,7 +31,7 @@ use Rattle.planner.specs.Plan.{Plan, depths, refused}
 use Rattle.planner.specs.Outlook.{outlook, daysLeft}
 use Rattle.planner.specs.Answer.{numbersOf, answerTo, answer}
 use Rattle.planner.proofs.Claims as plans
-use Rattle.controller.specs.Calls.{plannedOn, sheetOpened, sheetPlanned}
+use Rattle.controller.specs.Calls.{plannedOn, sheetOpened, sheetLost, sheetPlanned}
 use Rattle.controller.specs.Refusals.{planOf}
 use Rattle.controller.specs.Demands.{calls, numbered, PlanKept, Demand3}
 use Rattle.controller.proofs.Sheets.{sheet-accepted}
@@ -116,6 +120,13 @@ module _ (sheet : List ℕ) (v : sheetOf sheet .verdict ≡ verdict.Accepted) wh
       → PlanKept s l out (sheetPlanned sheet area out)
   plan-right area out l o day room = subst⁻¹ (PlanKept s l out) (plans-clean area out l o day) (plan-kept s l out room)
 
+  -- On a clean journal the losses are those of the ledger.
+  losses-clean : (area : List ℕ) (ky : ℕ) (l : Ledger) → opening s area ≡ found.Clean l → 1 ≤ ky → ky ≤ 200 → sheetLost sheet area ky ≡ Parts (lossesOf ky l)
+  unfolding lost lostOn orRefused
+  losses-clean area ky l o low high =
+      sheet-accepted losing.Refused (λ t. lost t area ky) sheet (sheetOf sheet) refl v
+      ∙ rw (o, lostOn, le-ltb ky 1 low, le-ltb 200 ky high)
+
   pub demand-3 : (size : ℕ) → size ≤ 8192 → (steps : List Step) (out : List ℕ) → Demand3 sheet size steps out
   unfolding bookOpening foundIn
   demand-3 size h steps out =
@@ -123,7 +134,10 @@ module _ (sheet : List ℕ) (v : sheetOf sheet .verdict ≡ verdict.Accepted) wh
       let kept : Kept (calls sheet) s size steps
       = subst⁻¹ (λ (d : Device). Kept d s size steps) same-calls (journals.claims .history-kept s (accepted-season sheet v) size h steps) in
       let area = areaAfter (calls sheet) (blankArea size) steps in
+      let clean : k .loose ≡ [] → opening s area ≡ found.Clean (ledgerOf s k)
+      = λ none. sym (opens area) ∙ kept .same-opening ∙ ap (foundIn (ledgerOf s k)) none in
       record {
         kept = kept;
-        plans = λ none day room. plan-right area out (ledgerOf s k) (sym (opens area) ∙ kept .same-opening ∙ ap (foundIn (ledgerOf s k)) none) day room;
+        plans = λ none day room. plan-right area out (ledgerOf s k) (clean none) day room;
+        losses = λ ky low high none. losses-clean area ky (ledgerOf s k) (clean none) low high;
       }

@@ -10,11 +10,12 @@ use borrow.Author.Tests.{lt-ltb, le-ltb}
 use Rattle.season.specs.declared.Season.{Season}
 use Rattle.season.specs.Sheet.{seasonDays}
 use Rattle.season.specs.Day.{AcceptedSeason}
+use Rattle.season.specs.Loss.{kyOutside}
 use Rattle.season.proofs.Whole.{by-order}
 use Rattle.verdict.specs.declared.Verdict.{Verdict}
 use Rattle.verdict.specs.declared.Verdict.the-variants.{Accepted, Refused}
 use Rattle.verdict.specs.Refusals.{orRefused, firstOf, verdictOf}
-use Rattle.verdict.proofs.First.{first-append, first-refused, refused-accepted}
+use Rattle.verdict.proofs.First.{Refusal, first-append, first-refused, first-refusal, refused-accepted}
 use Rattle.verdict.proofs.Claims as verdicts
 use Rattle.sheet.specs.Sheets.{sheetOf}
 use Rattle.sheet.specs.Refusals.{sheetLines}
@@ -30,6 +31,9 @@ use Rattle.journal.specs.Opening.{opening}
 use Rattle.journal.specs.Specified.{bytesAll, Says}
 use Rattle.journal.specs.Specified as said
 use Rattle.journal.specs.Calls.{noStores, recordedWith, storesOf, recordedOn, recorded, notMended, mendedOn, mended}
+use Rattle.journal.specs.declared.Losses.{Losses}
+use Rattle.journal.specs.Loss as yield
+use Rattle.journal.specs.Loss.{lossesOf, lossRefusals, lostUnless, lostOn, lossNumbers}
 use Rattle.journal.proofs.Claims as journals
 use Rattle.planner.specs.declared.Planned.{Planned}
 use Rattle.planner.specs.declared.Planned.the-variants as planned
@@ -44,7 +48,7 @@ use Rattle.decades.specs.declared.Tabled.the-variants as table
 use Rattle.decades.specs.Table as definition
 use Rattle.decades.proofs.Claims as tables
 use Rattle.controller.specs.Calls.{onSheet, plannedOn}
-use Rattle.controller.specs.Refusals.{Line, onLines, damaged, torn, ledgerIn, mendLines, openLines, entryLines, lost, planOf, roomLines, planLines, tableLines}
+use Rattle.controller.specs.Refusals.{Line, onLines, damaged, tornLine, ledgerIn, mendLines, openLines, lossLines, entryLines, lost, planOf, roomLines, planLines, tableLines}
 use Rattle.controller.proofs.Sheets.{on-sheet}
 
 -- Refusals 1 to 7 come first, for every call; the call's own go on from the sheet's verdict.
@@ -101,9 +105,6 @@ tableVerdict a = verdictOf (definition.numbersOf (a .0))
 abbrev areaLines : ℕ → Opening → List Line
 areaLines size o = (ltb 8192 size, 8, 0) ∷ (damaged o .0, 9, damaged o .1) ∷ []
 
-abbrev tornLine : Opening → Line
-tornLine o = (torn o .0, 10, torn o .1)
-
 module _ (s : Season) (area : List ℕ) where
   -- A call whose verdict is 8, 9, then what `lines` give of the opening.
   by-opening : (verdictIn : Opening → Verdict) (lines : Opening → List Line)
@@ -139,6 +140,21 @@ module _ (s : Season) (area : List ℕ) where
   pub mend-verdict : mended s area .verdict ≡ firstOf Accepted (mendLines area s)
   unfolding mended mendedOn
   mend-verdict = by-opening (λ o. mendedOn area o .verdict) (λ o. []) (λ number place h. refl) (λ l. refl) (λ l. refl)
+
+  -- 17, then 10
+  pub loss-verdict : (ky : ℕ) → verdictOf (lossNumbers (yield.lost s area ky)) ≡ firstOf Accepted (lossLines area ky s)
+  unfolding yield.lost lostOn orRefused
+  loss-verdict ky =
+      by-opening (λ o. verdictOf (lossNumbers (lostOn ky o))) (λ o. (kyOutside ky, 17, 0) ∷ tornLine o ∷ []) numbers-refused
+      (λ l. unless (lossesOf ky l) _ (first-refusal Numbered Accepted (lossRefusals ky false 0) tt (omega arith, (omega arith, tt))))
+      (λ l. unless (lossesOf ky l) _ (first-refusal Numbered Accepted (lossRefusals ky true (l .place)) tt (omega arith, (omega arith, tt))))
+    where
+      Numbered : ℕ → ℕ → Type 0
+      Numbered number value = 1 ≤ number
+
+      unless : (p : Losses) (v : Verdict) → Refusal Numbered v → verdictOf (lossNumbers (lostUnless v p)) ≡ v
+      unless p Accepted h = refl
+      unless p (Refused number value) h = numbers-refused number value h
 
   -- ---- 11, 15 and 16
 

@@ -1,5 +1,5 @@
 -- The calls on bytes. Refusals 1 to 7 concern every call that is given a sheet: it gives the first of them that applies, and else what it answers
--- of the sheet's season. The eighth call, write, is given numbers: `sheetWritten` of sheet's specs/Writing.antt.
+-- of the sheet's season. The ninth call, write, is given numbers: `sheetWritten` of sheet's specs/Writing.antt.
 use Prim.Native.Nat.{ℕ}
 use mathlib.Core.Bool.{cond}
 use mathlib.Core.List.{List}
@@ -14,9 +14,12 @@ use Rattle.journal.specs.declared.Opening.{Opening}
 use Rattle.journal.specs.declared.Opening.the-variants as found
 use Rattle.journal.specs.declared.Recorded.{Recorded}
 use Rattle.journal.specs.declared.Mended.{Mended}
+use Rattle.journal.specs.declared.Lost.{Lost}
+use Rattle.journal.specs.declared.Lost.the-variants as losing
 use Rattle.journal.specs.Entries.{waiting}
 use Rattle.journal.specs.Opening.{opening}
 use Rattle.journal.specs.Calls.{noStores, recordedWith, recorded, notMended, mended}
+use Rattle.journal.specs.Loss.{lost}
 use Rattle.planner.specs.declared.Planned.{Planned}
 use Rattle.planner.specs.declared.Planned.the-variants as planned
 use Rattle.planner.specs.Answer.{answer}
@@ -42,6 +45,10 @@ sheetRecorded sheet area e = onSheet (λ number value. recordedWith (Refused num
 -- Mend.
 abbrev pub sheetMended : List ℕ → List ℕ → Mended
 sheetMended sheet area = onSheet notMended (λ s. mended s area) sheet
+
+-- Loss, by a yield response factor.
+abbrev pub sheetLost : List ℕ → List ℕ → ℕ → Lost
+sheetLost sheet area ky = onSheet losing.Refused (λ s. lost s area ky) sheet
 
 -- Plan, on a journal that opens so, with the lent buffer: 8 to 10, then 11, then 15 and 16. It runs from the ledger's open day, starting at its depletion.
 unfoldable pub plannedOn : Season → List ℕ → Opening → Planned × List ℕ

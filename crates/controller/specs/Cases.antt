@@ -54,7 +54,7 @@ cases =
     -- Net 6,280: gross 13,956 at 45 percent, 8,374 at 75.
     ∷ (grossOf 45 (netIs 6280) .0 ∷ grossOf 75 (netIs 6280) .0 ∷ [], 13956 ∷ 8374 ∷ [])
     -- 01 AC FF FF is torn at 0; mending stores place 1, then place 0. FF AC FF FF is damaged.
-    ∷ (journal.numbersOf (sheetOpened (smallSheet 127) (0x01 ∷ 0xAC ∷ 0xFF ∷ 0xFF ∷ [])), 10 ∷ 0 ∷ 1 ∷ replicate 8 0)
+    ∷ (journal.numbersOf (sheetOpened (smallSheet 127) (0x01 ∷ 0xAC ∷ 0xFF ∷ 0xFF ∷ [])), 10 ∷ 0 ∷ 1 ∷ replicate 17 0)
     ∷ (mendedNumbers (sheetMended (smallSheet 127) (0x01 ∷ 0xAC ∷ 0xFF ∷ 0xFF ∷ [])), 0 ∷ 0 ∷ 1 ∷ 0xFF ∷ 0 ∷ 0xFF ∷ [])
     ∷ (journal.numbersOf (sheetOpened (smallSheet 127) (0xFF ∷ 0xAC ∷ 0xFF ∷ 0xFF ∷ [])), 9 ∷ 0 ∷ [])
     -- turns 127: one watering, day 3, 700, gross 934.

@@ -20,6 +20,7 @@ use Rattle.journal.specs.declared.Opening.the-variants.{Clean}
 use Rattle.journal.specs.Opening as opened
 use Rattle.journal.specs.Specified.{Opens}
 use Rattle.journal.specs.Calls.{noStores, recordedWith, notMended}
+use Rattle.journal.specs.Loss.{lossNumbers}
 use Rattle.journal.specs.Book.{Step}
 use Rattle.journal.specs.Claims as journal
 use Rattle.journal.specs.Claims.{OpeningOccurs, RecordedOccurs, MendedOccurs}
@@ -27,8 +28,8 @@ use Rattle.planner.specs.Outlook.{daysLeft}
 use Rattle.planner.specs.Answer as planned
 use Rattle.planner.specs.Claims as planner
 use Rattle.decades.specs.Table as tabled
-use Rattle.controller.specs.Calls.{sheetOpened, sheetRecorded, sheetMended, sheetPlanned, sheetTabled}
-use Rattle.controller.specs.Refusals.{onLines, mendLines, openLines, entryLines, planLines, tableLines}
+use Rattle.controller.specs.Calls.{sheetOpened, sheetRecorded, sheetMended, sheetLost, sheetPlanned, sheetTabled}
+use Rattle.controller.specs.Refusals.{onLines, mendLines, openLines, lossLines, entryLines, planLines, tableLines}
 use Rattle.controller.specs.Demands.{PlanKept, Demand3}
 use Rattle.controller.specs.Cases.{cases}
 
@@ -40,6 +41,7 @@ pub record Claims : Type 0 where
   pub open-refuses : (sheet area : List ℕ) → verdictOf (opened.numbersOf (sheetOpened sheet area)) ≡ firstOf Accepted (onLines sheet (openLines area))
   pub entry-refuses : (sheet area : List ℕ) (e : Entry) → sheetRecorded sheet area e .verdict ≡ firstOf Accepted (onLines sheet (entryLines area e))
   pub mend-refuses : (sheet area : List ℕ) → sheetMended sheet area .verdict ≡ firstOf Accepted (onLines sheet (mendLines area))
+  pub loss-refuses : (sheet area : List ℕ) (ky : ℕ) → verdictOf (lossNumbers (sheetLost sheet area ky)) ≡ firstOf Accepted (onLines sheet (lossLines area ky))
   pub plan-refuses : (sheet area out : List ℕ)
       → verdictOf (planned.numbersOf (sheetPlanned sheet area out .0)) ≡ firstOf Accepted (onLines sheet (planLines area (length out)))
   pub table-refuses : (sheet out : List ℕ) → verdictOf (tabled.numbersOf (sheetTabled sheet out .0)) ≡ firstOf Accepted (onLines sheet (tableLines (length out)))
@@ -74,7 +76,7 @@ pub record Claims : Type 0 where
   pub entries : journal.Claims
   -- Opening finds clean, torn and damaged in document 01's words, behind the longest run of whole entries that would each have been accepted.
   pub opening-says : (sheet area : List ℕ) → sheetOf sheet .verdict ≡ Accepted → length area ≤ 8192 → Opens (sheetOf sheet .season) area (sheetOpened sheet area)
-  -- The calls' answers are among those on which their numberings are one to one (the journal's `Claims`; a plan's and a table's are, on all answers).
+  -- The calls' answers are among those on which their numberings are one to one (the journal's `Claims`; a plan's, a table's and a loss's are, on all answers).
   pub opening-occurs : (sheet area : List ℕ) → OpeningOccurs (sheetOpened sheet area)
   pub recorded-occurs : (sheet area : List ℕ) (e : Entry) → RecordedOccurs (sheetRecorded sheet area e)
   pub mended-occurs : (sheet area : List ℕ) → MendedOccurs (sheetMended sheet area)

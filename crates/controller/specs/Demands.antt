@@ -8,7 +8,9 @@ use Rattle.season.specs.declared.Season.{Season}
 use Rattle.season.specs.Sheet.{seasonDays}
 use Rattle.sheet.specs.Sheets.{sheetOf}
 use Rattle.journal.specs.declared.Ledger.{Ledger}
+use Rattle.journal.specs.declared.Lost.the-variants.{Parts}
 use Rattle.journal.specs.Entries.{waiting}
+use Rattle.journal.specs.Loss.{lossesOf}
 use Rattle.journal.specs.Book.{Step, Book, emptyBook, ledgerOf, bookAfter}
 use Rattle.journal.specs.History.{Device, blankArea, areaAfter}
 use Rattle.journal.specs.Claims.{Kept}
@@ -18,7 +20,7 @@ use Rattle.planner.specs.Plan.{depths}
 use Rattle.planner.specs.Outlook.{outlook, daysLeft}
 use Rattle.planner.specs.Answer.{numbersOf}
 use Rattle.planner.specs.Claims.{MadeRight}
-use Rattle.controller.specs.Calls.{sheetOpened, sheetRecorded, sheetMended, sheetPlanned}
+use Rattle.controller.specs.Calls.{sheetOpened, sheetRecorded, sheetMended, sheetLost, sheetPlanned}
 use Rattle.controller.specs.Refusals.{planOf}
 
 -- The entry calls, mend and open, all with one sheet.
@@ -51,6 +53,8 @@ pub record Met (sheet : List ℕ) (s : Season) (size : ℕ) (steps : List Step) 
   -- Where the journal is clean, a day is open and the buffer is long enough, the plan is right.
   pub plans : k .loose ≡ [] → ledgerOf s k .day ≤ seasonDays s → daysLeft s (ledgerOf s k .day) ≤ length out
       → PlanKept s (ledgerOf s k) out (sheetPlanned sheet area out)
+  -- Where the journal is clean, the losses by any Ky are those of the book's ledger, with all days closed too.
+  pub losses : (ky : ℕ) → 1 ≤ ky → ky ≤ 200 → k .loose ≡ [] → sheetLost sheet area ky ≡ Parts (lossesOf ky (ledgerOf s k))
 
 abbrev pub Demand3 : List ℕ → ℕ → List Step → List ℕ → Type 0
 Demand3 sheet size steps out =

@@ -7,6 +7,7 @@ use lib.Dec.{ltb}
 use lib.ListN.{length}
 use Rattle.season.specs.declared.Season.{Season}
 use Rattle.season.specs.Sheet.{seasonDays}
+use Rattle.season.specs.Loss.{kyOutside}
 use Rattle.sheet.specs.Sheets.{sheetOf}
 use Rattle.sheet.specs.Refusals.{sheetLines}
 use Rattle.journal.specs.declared.Entry.{Entry}
@@ -28,7 +29,7 @@ Line = Bool × ℕ × ℕ
 abbrev pub onLines : List ℕ → (Season → List Line) → List Line
 onLines sheet lines = sheetLines sheet ++ lines (sheetOf sheet .season)
 
--- ---- 8 to 14
+-- ---- 8 to 14, and 17
 
 -- What an opening found: damage or a torn part, and its place; and the ledger, that of a blank journal where there is none.
 abbrev pub damaged : Opening → Bool × ℕ
@@ -50,9 +51,16 @@ ledgerIn s (found.Refused number place) = start s
 abbrev pub mendLines : List ℕ → Season → List Line
 mendLines area s = (ltb 8192 (length area), 8, 0) ∷ (damaged (opening s area) .0, 9, damaged (opening s area) .1) ∷ []
 
+abbrev pub tornLine : Opening → Line
+tornLine o = (torn o .0, 10, torn o .1)
+
 -- Open: a torn journal is numbered 10 with its place. That is no refusal of open: the ledger comes with it.
 abbrev pub openLines : List ℕ → Season → List Line
-openLines area s = mendLines area s ++ ((torn (opening s area) .0, 10, torn (opening s area) .1) ∷ [])
+openLines area s = mendLines area s ++ (tornLine (opening s area) ∷ [])
+
+-- Loss: 17 stands right after 9, so before 10; 11 does not concern it.
+abbrev pub lossLines : List ℕ → ℕ → Season → List Line
+lossLines area ky s = mendLines area s ++ ((kyOutside ky, 17, 0) ∷ tornLine (opening s area) ∷ [])
 
 -- Rain, irrigation and close: 10 refuses them.
 abbrev pub entryLines : List ℕ → Entry → Season → List Line

@@ -2,6 +2,7 @@
 // with document 01's number. Nothing here stores to the area: the stores are handed back, and the firmware does them in the order given.
 use decades::Tabled;
 use journal::Entry;
+use journal::Lost;
 use journal::Mended;
 use journal::Opening;
 use journal::Recorded;
@@ -16,7 +17,7 @@ ghost use Rattle.journal.specs.declared.Entry.the-variants.{Water, Close};
 ghost use Rattle.journal.specs.declared.Source.the-variants.{Rain, Irrigation};
 ghost use Rattle.journal.specs.Opening.{opening};
 ghost use Rattle.sheet.specs.Writing.{sheetWritten};
-ghost use Rattle.controller.specs.Calls.{sheetOpened, sheetRecorded, sheetMended, plannedOn, sheetPlanned, sheetTabled};
+ghost use Rattle.controller.specs.Calls.{sheetOpened, sheetRecorded, sheetMended, sheetLost, plannedOn, sheetPlanned, sheetTabled};
 
 // What the journal holds: clean or torn with its ledger, or a refusal. Refusals 1 to 9.
 pub fn open(sheet: &[u8], area: &[u8]) -> Opening
@@ -75,6 +76,19 @@ pub fn mend(sheet: &[u8], area: &[u8]) -> Mended
     match verdict {
         Verdict::Refused(number, value) => journal::unmended(number, value),
         Verdict::Accepted => journal::mend(season, area),
+    }
+}
+
+// Yield lost in the season and in each stage, by a yield response factor in hundredths. Refusals 1 to 9, 17 and 10.
+pub fn loss(sheet: &[u8], area: &[u8], ky: u32) -> Lost
+    ensures { λ r. ⌜ r ≡ sheetLost (now (sheet .entry)) (now (area .entry)) ky ⌝ }
+{
+    let read = sheet::read(sheet);
+    let season = read.season;
+    let verdict = read.verdict;
+    match verdict {
+        Verdict::Refused(number, value) => Lost::Refused(number, value),
+        Verdict::Accepted => journal::loss(season, area, ky),
     }
 }
 
