@@ -1,4 +1,4 @@
-/* Balladsky: the block water controller of documents 01 and 02, eight calls on bytes. C99 and C++.
+/* Balladsky: the block water controller of documents 01 and 02, nine calls on bytes. C99 and C++.
  *
  * Link target/staticlib/libexports.a (made by `rt staticlib exports`, x86-64 Linux). It needs memcpy and memset, and
  * nothing else. Every call is proved to meet a contract that fixes each number it writes; crates/exports/src/lib.rt
@@ -8,6 +8,7 @@
  *   sheet, sheet_length  The season sheet, read only. Any bytes, any length.
  *   area, area_length    The journal, read only: no call writes to it. Any bytes, any length; blank is every byte FF.
  *   amount               Points, hundredths of a millimetre. Any number.
+ *   ky                   The yield response factor Ky, in hundredths. Any number.
  *   depths, rows         A buffer that you lend, with how many numbers it has. Too few is refusal 15.
  *   fields               An array of BALLADSKY_FIELDS numbers, read only. Any numbers.
  *   out                  An array of BALLADSKY_OUT numbers that you lend.
@@ -35,7 +36,7 @@
  * do its stores, which may be cut in turn; then enter again what was cut.
  *
  * STACK, THREADS AND SIGNALS
- *   Stack on x86-64, beside what memcpy and memset take: the plan less than 2.6 KB, every other call less than 1.2 KB.
+ *   Stack on x86-64, beside what memcpy and memset take: the plan less than 2.7 KB, every other call less than 1.2 KB.
  *   Where memcpy and memset are bound lazily, the first call that uses one takes some 3 KB more, once: link with
  *   -z now, or statically, and it does not.
  *   No heap, no globals, no locks, no recursion, no system call: calls on different buffers may run at once in any
@@ -53,21 +54,23 @@
 extern "C" {
 #endif
 
-#define BALLADSKY_OUT 12     /* numbers of out */
+#define BALLADSKY_OUT 20     /* numbers of out */
 #define BALLADSKY_AREA 8192  /* bytes of the longest area */
 #define BALLADSKY_DEPTHS 275 /* numbers that every plan fits in */
 #define BALLADSKY_ROWS 174   /* numbers that every table fits in: 29 rows of six */
 #define BALLADSKY_SHEET 86   /* bytes that every sheet fits in */
 #define BALLADSKY_FIELDS 40  /* numbers of a sheet */
 
-/* What out[0] says. A refusal is the first that applies, read downward, of those that the call gives. In brackets what
- * out[1] then is; else it is 0. None passes 8,192.
+/* What out[0] says. A refusal is the first that applies, read downward but for 17, of those that the call gives. In
+ * brackets what out[1] then is; else it is 0. None passes 8,192.
  *
  * Of 1 and 2 it is whichever comes first in the bytes: a sheet of the two bytes 80 00 is refused 2 with place 1, though
  * 1 applies too.
  * 15 is given by the plan, after 11 and before 16, where depths has fewer numbers than there are days from the open day
  * to the season's last; by the table, after 7, where rows has fewer than six numbers a row; by write, after 7, where
- * the buffer has fewer bytes than the sheet. */
+ * the buffer has fewer bytes than the sheet.
+ * 17 is given by loss, right after 9 and before 10, where ky is outside 1 to 200: with ky 0 a damaged journal is
+ * refused 9, and a torn one 17. */
 enum {
     BALLADSKY_ACCEPTED = 0,             /* accepted; open: the journal is clean */
     BALLADSKY_SHEET_ENDS = 1,           /* the sheet ends before its fortieth number is whole [the sheet's length] */
@@ -87,12 +90,15 @@ enum {
     BALLADSKY_DAY_OVERFULL = 13,        /* the day's water would pass 240,000 */
     BALLADSKY_AREA_FULL = 14,           /* the entry does not fit in the area */
     BALLADSKY_BUFFER_TOO_SHORT = 15,    /* the lent buffer has too few numbers or bytes */
-    BALLADSKY_NO_CHOICE = 16            /* no choice of depths holds [the first day that none holds] */
+    BALLADSKY_NO_CHOICE = 16,           /* no choice of depths holds [the first day that none holds] */
+    BALLADSKY_KY_OUT_OF_RANGE = 17      /* Ky is outside 1 to 200 */
 };
 
 /* Opens the journal. Clean or torn: out[2] open day (days + 1 when all are closed), [3] depletion, [4] waiting rain,
  * [5] waiting irrigation, [6] season rain, [7] season irrigation, [8] season use, [9] season percolation, [10] the
- * place after the last entry. Refusals 1 to 9. */
+ * place after the last entry, [11] season need: what the crop would have used on the closed days without stress. Then
+ * need and use on the closed days of each stage: [12] and [13] initial, [14] and [15] development, [16] and [17] mid,
+ * [18] and [19] late. Refusals 1 to 9. */
 void balladsky_open(const uint8_t *sheet, size_t sheet_length, const uint8_t *area, size_t area_length, uint32_t *out);
 
 /* Enters rain of the open day. Accepted: out[2] start, [3] count, [4] to [7] four bytes, 0 past the count. Refusals 1
@@ -110,6 +116,13 @@ void balladsky_close(const uint8_t *sheet, size_t sheet_length, const uint8_t *a
 /* Mends a torn journal. Accepted: out[2] count, [3] to [5] three places to set to FF, highest first, 0 past the count.
  * A clean journal has none. Refusals 1 to 9. */
 void balladsky_mend(const uint8_t *sheet, size_t sheet_length, const uint8_t *area, size_t area_length, uint32_t *out);
+
+/* The yield that stress on the closed days has cost, by one Ky. Accepted: out[2] the season's loss, [3] the initial
+ * stage's, [4] development's, [5] mid's, [6] late's, in ten-thousandths: 100 * ky * (need - use) / need, rounded down,
+ * at most 10,000, and 0 where the need is 0; need and use are the season's or the stage's that open answers. It answers
+ * when all days are closed too. Refusals 1 to 9, then 17, then 10. */
+void balladsky_loss(const uint8_t *sheet, size_t sheet_length, const uint8_t *area, size_t area_length, uint32_t ky,
+    uint32_t *out);
 
 /* Plans the waterings from the open day to the season's end. Accepted: depths[0] is the open day's net depth, depths[1]
  * the next day's, and so on; out[2] how many are above 0, [3] the net total, [4] the gross total. Refusals 1 to 11, 15

@@ -1,5 +1,5 @@
-/* A season of four days on the small sheet of document 01, with two power cuts. Prints the decade table and the
- * ledger. */
+/* A season of four days on the small sheet of document 01, with two power cuts. Prints the decade table, the ledger
+ * and the lost yield. */
 #include "balladsky.h"
 #include <stdio.h>
 #include <stdlib.h>
@@ -82,12 +82,22 @@ static void close_day(unsigned day) {
 static void print_ledger(void) {
     static const char *const names[] = {
         "open day", "depletion", "waiting rain", "waiting irrigation", "season rain", "season irrigation", "season use",
-        "season percolation", "place",
+        "season percolation", "place", "season need",
     };
+    static const char *const stages[] = {"initial", "development", "mid", "late"};
     balladsky_open(sheet, sizeof sheet, area, sizeof area, out);
     must("open");
-    for (int i = 0; i < 9; i++)
+    for (int i = 0; i < 10; i++)
         printf("%s %u\n", names[i], out[2 + i]);
+    for (int i = 0; i < 4; i++)
+        printf("%s need %u, use %u\n", stages[i], out[12 + 2 * i], out[13 + 2 * i]);
+}
+
+/* The season's and the four stages', in ten-thousandths. */
+static void print_loss(uint32_t ky) {
+    balladsky_loss(sheet, sizeof sheet, area, sizeof area, ky, out);
+    must("loss");
+    printf("loss with Ky %u: season %u, stages %u %u %u %u\n", ky, out[2], out[3], out[4], out[5], out[6]);
 }
 
 int main(void) {
@@ -104,5 +114,6 @@ int main(void) {
     close_day(3);
     close_day(4);
     print_ledger();
+    print_loss(100);
     return 0;
 }

@@ -11,6 +11,7 @@ use Rattle.season.specs.declared.Season.{Season}
 use Rattle.season.specs.Day.{AcceptedSeason}
 use Rattle.verdict.specs.declared.Verdict.{Verdict}
 use Rattle.verdict.specs.declared.Verdict.the-variants.{Accepted, Refused}
+use Rattle.verdict.specs.Refusals.{firstOf}
 use Rattle.verdict.proofs.First.{Refusal, first-refusal}
 use Rattle.sheet.proofs.Numbered.{refused-is, write-refused-is}
 use Rattle.sheet.proofs.Claims as sheets
@@ -28,6 +29,8 @@ use Rattle.journal.specs.declared.Opening.the-variants as found
 use Rattle.journal.specs.Entries.{waiting, refusals, refusal}
 use Rattle.journal.specs.Opening.{opening}
 use Rattle.journal.specs.Calls.{storesOf, noStores, recordedWith, recordedOn, recorded, wipePlaces, notMended, mendedOn, mended}
+use Rattle.journal.specs.declared.Lost.the-variants as losing
+use Rattle.journal.specs.Loss.{lossesOf, lossRefusals, lostUnless, lostBy, lostOn, lost}
 use Rattle.journal.specs.Claims.{StoresOccur}
 use Rattle.planner.specs.declared.Planned.{Planned}
 use Rattle.planner.specs.declared.Planned.the-variants as planned
@@ -40,11 +43,11 @@ use Rattle.decades.specs.declared.Tabled.the-variants as table
 use Rattle.decades.specs.Table.{rowCount, tabled}
 use Rattle.decades.specs.Table as definition
 use Rattle.decades.proofs.Count.{rows-at-most}
-use Rattle.controller.specs.Calls.{plannedOn, sheetOpened, sheetRecorded, sheetMended, sheetPlanned, sheetTabled}
+use Rattle.controller.specs.Calls.{plannedOn, sheetOpened, sheetRecorded, sheetMended, sheetLost, sheetPlanned, sheetTabled}
 use Rattle.controller.proofs.Sheets.{on-sheet}
 use Rattle.controller.proofs.Refusing.{opening-by}
 use Rattle.controller.proofs.Claims.{claims}
-use Rattle.exports.specs.Small.{SmallVerdict, SmallOpening, SmallRecorded, SmallMended, SmallPlanned, SmallTabled, SmallWritten}
+use Rattle.exports.specs.Small.{SmallVerdict, SmallOpening, SmallRecorded, SmallMended, SmallLost, SmallPlanned, SmallTabled, SmallWritten}
 
 -- ---- the sheet
 
@@ -158,6 +161,25 @@ pub mended-small : (sheet area : List ℕ) → SmallMended (sheetMended sheet ar
 mended-small sheet area =
     let w = mended-wipes sheet area in
     record { verdict = w .verdict; count = omega (arith, claims .mended-occurs sheet area .0 .few); places = w .places }
+
+-- ---- loss
+
+-- Refusal 17 carries no place, 10 the ledger's.
+lost-by-small : (ky : ℕ) (l : Ledger) (t : Bool) (place : ℕ) → place ≤ 8192 → SmallLost (lostBy ky l t place)
+lost-by-small ky l t place h =
+    unless (firstOf Accepted (lossRefusals ky t place))
+    (first-refusal (λ number value. value ≤ 8192) Accepted (lossRefusals ky t place) tt (omega arith, (h, tt)))
+  where
+    unless : (v : Verdict) → Refusal (λ number value. value ≤ 8192) v → SmallLost (lostUnless v (lossesOf ky l))
+    unless Accepted a = tt
+    unless (Refused number value) a = a
+
+pub lost-small : (sheet area : List ℕ) (ky : ℕ) → SmallLost (sheetLost sheet area ky)
+unfolding lost lostOn
+lost-small sheet area ky =
+    on-sheet losing.Refused (λ s. lost s area ky) sheet SmallLost
+    (λ number value v. refused-small sheet number value v)
+    (λ s v q o. opening-by s area (λ p. SmallLost (lostOn ky p)) (λ h. omega arith) (λ h l i. lost-by-small ky l false 0 (omega arith)) (λ h l i. lost-by-small ky l true (l .place) (omega arith)) (λ h l i. omega arith))
 
 -- ---- plan and table
 

@@ -12,6 +12,9 @@ use Rattle.journal.specs.declared.Stores.{Stores}
 use Rattle.journal.specs.declared.Recorded.{Recorded}
 use Rattle.journal.specs.declared.Mended.{Mended}
 use Rattle.journal.specs.Opening as opened
+use Rattle.journal.specs.declared.Lost.{Lost}
+use Rattle.journal.specs.declared.Lost.the-variants as losing
+use Rattle.journal.specs.Loss.{lossNumbers}
 use Rattle.journal.specs.Claims.{StoresOccur, WipesOccur, MendedOccurs, Placed}
 use Rattle.planner.specs.declared.Planned.{Planned}
 use Rattle.planner.specs.declared.Planned.the-variants as planned
@@ -24,40 +27,44 @@ use Rattle.sheet.specs.declared.Written.the-variants as made
 use Rattle.sheet.specs.Writing as writer
 use Rattle.sheet.specs.Writing.{sheetWritten}
 use Rattle.season.proofs.Stores.{at-start}
-use Rattle.controller.specs.Calls.{sheetOpened, sheetRecorded, sheetMended, sheetPlanned, sheetTabled}
+use Rattle.controller.specs.Calls.{sheetOpened, sheetRecorded, sheetMended, sheetLost, sheetPlanned, sheetTabled}
 use Rattle.controller.proofs.Claims as controller
 use Rattle.verdict.specs.Refusals.{numbersThen}
-use Rattle.exports.specs.Written.{writtenOver, mendedOut}
+use Rattle.exports.specs.Written.{outLength, writtenOver, mendedOut}
 use Rattle.exports.specs.Claims.{Claims}
-use Rattle.exports.proofs.Bounds.{opened-small, recorded-small, mended-small, planned-small, tabled-small, written-small}
+use Rattle.exports.proofs.Bounds.{opened-small, recorded-small, mended-small, lost-small, planned-small, tabled-small, written-small}
 
 over-first : (ns out : List ℕ) → length ns ≤ length out → writtenOver ns out ≡ ns ++ drop (length ns) out
 over-first ns out h = at-start ns out h
 
--- ---- twelve numbers have room
+-- ---- the array has room
 
-opening-length : (o : Opening) → length (opened.numbersOf o) ≤ 12
+opening-length : (o : Opening) → length (opened.numbersOf o) ≤ outLength
 opening-length (found.Clean l) = omega arith
 opening-length (found.Torn l place) = omega arith
 opening-length (found.Refused number value) = omega arith
 
-planned-length : (p : Planned) → length (planner.numbersOf p) ≤ 12
+lost-length : (r : Lost) → length (lossNumbers r) ≤ outLength
+lost-length (losing.Parts p) = omega arith
+lost-length (losing.Refused number value) = omega arith
+
+planned-length : (p : Planned) → length (planner.numbersOf p) ≤ outLength
 planned-length (planned.Made days net gross) = omega arith
 planned-length (planned.Refused number value) = omega arith
 
-tabled-length : (t : Tabled) → length (decades.numbersOf t) ≤ 12
+tabled-length : (t : Tabled) → length (decades.numbersOf t) ≤ outLength
 tabled-length (table.Rows count) = omega arith
 tabled-length (table.Refused number value) = omega arith
 
-written-length : (w : Written) → length (writer.numbersOf w) ≤ 12
+written-length : (w : Written) → length (writer.numbersOf w) ≤ outLength
 written-length (made.Made count) = omega arith
 written-length (made.Refused number value) = omega arith
 
-stores-length : (v : Verdict) (w : Stores) → StoresOccur v w → length (numbersThen v (w .start ∷ w .count ∷ w .bytes)) ≤ 12
+stores-length : (v : Verdict) (w : Stores) → StoresOccur v w → length (numbersThen v (w .start ∷ w .count ∷ w .bytes)) ≤ outLength
 stores-length Accepted w h = omega (arith, h .size)
 stores-length (Refused number value) w h = omega arith
 
-places-length : (v : Verdict) (r : Mended) → Placed r → length (numbersThen v (r .count ∷ r .places)) ≤ 12
+places-length : (v : Verdict) (r : Mended) → Placed r → length (numbersThen v (r .count ∷ r .places)) ≤ outLength
 places-length Accepted r h = omega (arith, h .size)
 places-length (Refused number value) r h = omega arith
 
@@ -108,12 +115,14 @@ claims = record {
   opened-fits = λ sheet area. opening-length (sheetOpened sheet area);
   recorded-fits = λ sheet area e. stores-length (sheetRecorded sheet area e .verdict) (sheetRecorded sheet area e .stores) (controller.claims .recorded-occurs sheet area e);
   mended-fits = λ sheet area. places-length (sheetMended sheet area .verdict) (sheetMended sheet area) (controller.claims .mended-occurs sheet area .0);
+  lost-fits = λ sheet area ky. lost-length (sheetLost sheet area ky);
   planned-fits = λ sheet area depths. planned-length (sheetPlanned sheet area depths .0);
   tabled-fits = λ sheet rows. tabled-length (sheetTabled sheet rows .0);
   written-fits = λ fields sheet. written-length (sheetWritten fields sheet .0);
   opened-small = opened-small;
   recorded-small = recorded-small;
   mended-small = mended-small;
+  lost-small = lost-small;
   planned-small = planned-small;
   tabled-small = tabled-small;
   written-small = written-small;

@@ -7,6 +7,8 @@ use Rattle.journal.specs.declared.Opening.{Opening}
 use Rattle.journal.specs.declared.Opening.the-variants as found
 use Rattle.journal.specs.declared.Recorded.{Recorded}
 use Rattle.journal.specs.declared.Mended.{Mended}
+use Rattle.journal.specs.declared.Lost.{Lost}
+use Rattle.journal.specs.declared.Lost.the-variants as losing
 use Rattle.planner.specs.declared.Planned.{Planned}
 use Rattle.planner.specs.declared.Planned.the-variants as planned
 use Rattle.decades.specs.declared.Tabled.{Tabled}
@@ -32,6 +34,10 @@ pub record SmallMended (r : Mended) : Type 0 where
   pub verdict : SmallVerdict (r .verdict)
   pub count : r .count ≤ 8192
   pub places : (i : ℕ) → getD (r .places) i 0 ≤ 8192
+
+abbrev pub SmallLost : Lost → Type 0
+SmallLost (losing.Parts p) = Unit {0}
+SmallLost (losing.Refused number value) = value ≤ 8192
 
 abbrev pub SmallPlanned : Planned → Type 0
 SmallPlanned (planned.Made days net gross) = Unit {0}

@@ -1,5 +1,5 @@
 -- The numbers that an exported call writes for C and Rust: document 01's number (0 accepted or clean, 10 torn, else the refusal), the number
--- returned with it, then the answer. An opening, a plan, a table and a sheet written have the numbering that stands beside them.
+-- returned with it, then the answer. An opening, a loss, a plan, a table and a sheet written have the numbering that stands beside them.
 use Prim.Native.Nat.{ℕ}
 use mathlib.Core.List.{List, _∷_}
 use lib.Seq.{sets}
@@ -12,6 +12,10 @@ use Rattle.decades.specs.declared.Tabled.{Tabled}
 use Rattle.decades.specs.Table as decades
 use Rattle.sheet.specs.declared.Written.{Written}
 use Rattle.sheet.specs.Writing as writer
+
+-- How many numbers the caller's array has.
+abbrev pub outLength : ℕ
+outLength = 20
 
 -- Numbers over the first numbers of an array; those beyond keep what they held.
 abbrev pub writtenOver : List ℕ → List ℕ → List ℕ

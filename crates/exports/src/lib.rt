@@ -3,6 +3,8 @@
 use decades::Tabled;
 use journal::Entry;
 use journal::Ledger;
+use journal::Losses;
+use journal::Lost;
 use journal::Opening;
 use journal::Source;
 use planner::Planned;
@@ -16,16 +18,20 @@ ghost use Rattle.journal.specs.declared.Entry.the-variants.{Water, Close};
 ghost use Rattle.journal.specs.declared.Source.the-variants.{Rain, Irrigation};
 ghost use Rattle.journal.specs.Entries.{ledgerNumbers};
 ghost use Rattle.journal.specs.Opening as opened;
+ghost use Rattle.journal.specs.Loss.{lossNumbers};
 ghost use Rattle.planner.specs.Answer.{numbersOf};
 ghost use Rattle.sheet.specs.Writing.{sheetWritten};
-ghost use Rattle.controller.specs.Calls.{sheetOpened, sheetRecorded, sheetMended, sheetPlanned, sheetTabled};
+ghost use Rattle.controller.specs.Calls.{sheetOpened, sheetRecorded, sheetMended, sheetLost, sheetPlanned, sheetTabled};
 ghost use Rattle.exports.specs.Written.{writtenOver, recordedOut, mendedOut, plannedOver, tabledOver, sheetOver};
 ghost use Rattle.exports.specs.Small.{SmallPlanned};
+
+// How many numbers `out` has: those of the longest answer, an opening's.
+pub const OUT: usize = 20;
 
 // ---- an answer's numbers
 
 // A refusal: its number, and the number returned with it.
-fn put_refusal(out: &mut [u32; 12], number: u32, value: usize)
+fn put_refusal(out: &mut [u32; OUT], number: u32, value: usize)
     requires { ⌜ value ≤ 8192 ⌝ }
     ensures { λ _. ⌜ now (out .exit) ≡ writtenOver (number ∷ value ∷ []) (now (out .entry)) ⌝ }
 {
@@ -34,10 +40,15 @@ fn put_refusal(out: &mut [u32; 12], number: u32, value: usize)
 }
 
 // Clean or torn: two numbers, then the ledger's.
-fn put_ledger(out: &mut [u32; 12], number: u32, value: usize, l: Ledger)
+fn put_ledger(out: &mut [u32; OUT], number: u32, value: usize, l: Ledger)
     requires { ⌜ (value ≤ 8192) × (l .place ≤ 8192) ⌝ }
     ensures { λ _. ⌜ now (out .exit) ≡ writtenOver (number ∷ value ∷ ledgerNumbers l) (now (out .entry)) ⌝ }
 {
+    let stages = l.stages;
+    let initial = stages.initial;
+    let development = stages.development;
+    let middle = stages.middle;
+    let late = stages.late;
     out[0] = number;
     out[1] = value as u32;
     out[2] = l.day;
@@ -49,10 +60,32 @@ fn put_ledger(out: &mut [u32; 12], number: u32, value: usize, l: Ledger)
     out[8] = l.used;
     out[9] = l.percolation;
     out[10] = l.place as u32;
+    out[11] = l.need;
+    out[12] = initial.need;
+    out[13] = initial.used;
+    out[14] = development.need;
+    out[15] = development.used;
+    out[16] = middle.need;
+    out[17] = middle.used;
+    out[18] = late.need;
+    out[19] = late.used;
+}
+
+// Losses: the season's and the four stages'.
+fn put_losses(out: &mut [u32; OUT], p: Losses)
+    ensures { λ _. ⌜ now (out .exit) ≡ writtenOver (lossNumbers (Lost.Parts p)) (now (out .entry)) ⌝ }
+{
+    out[0] = 0;
+    out[1] = 0;
+    out[2] = p.season;
+    out[3] = p.initial;
+    out[4] = p.development;
+    out[5] = p.middle;
+    out[6] = p.late;
 }
 
 // An accepted entry: the start, the count and four bytes.
-fn put_stores(out: &mut [u32; 12], bytes: [u8; 4], start: usize, count: usize)
+fn put_stores(out: &mut [u32; OUT], bytes: [u8; 4], start: usize, count: usize)
     requires { ⌜ (start ≤ 8192) × (count ≤ 8192) ⌝ }
     ensures { λ _. ⌜ now (out .exit) ≡ writtenOver (0 ∷ 0 ∷ start ∷ count ∷ getD bytes 0 0 ∷ getD bytes 1 0 ∷ getD bytes 2 0 ∷ getD bytes 3 0 ∷ []) (now (out .entry)) ⌝ }
 {
@@ -67,7 +100,7 @@ fn put_stores(out: &mut [u32; 12], bytes: [u8; 4], start: usize, count: usize)
 }
 
 // An accepted mend: the count and three places.
-fn put_places(out: &mut [u32; 12], places: [usize; 3], count: usize)
+fn put_places(out: &mut [u32; OUT], places: [usize; 3], count: usize)
     requires { ⌜ (count ≤ 8192) × (getD places 0 0 ≤ 8192) × (getD places 1 0 ≤ 8192) × (getD places 2 0 ≤ 8192) ⌝ }
     ensures { λ _. ⌜ now (out .exit) ≡ writtenOver (0 ∷ 0 ∷ count ∷ getD places 0 0 ∷ getD places 1 0 ∷ getD places 2 0 ∷ []) (now (out .entry)) ⌝ }
 {
@@ -80,7 +113,7 @@ fn put_places(out: &mut [u32; 12], places: [usize; 3], count: usize)
 }
 
 // A plan that is made: its totals.
-fn put_totals(out: &mut [u32; 12], waterings: u32, net: u32, gross: u32)
+fn put_totals(out: &mut [u32; OUT], waterings: u32, net: u32, gross: u32)
     ensures { λ _. ⌜ now (out .exit) ≡ writtenOver (0 ∷ 0 ∷ waterings ∷ net ∷ gross ∷ []) (now (out .entry)) ⌝ }
 {
     out[0] = 0;
@@ -91,7 +124,7 @@ fn put_totals(out: &mut [u32; 12], waterings: u32, net: u32, gross: u32)
 }
 
 // A plan by its case. (A function of its own: within the call it slows the pass over the days by a tenth.)
-fn put_planned(out: &mut [u32; 12], p: Planned)
+fn put_planned(out: &mut [u32; OUT], p: Planned)
     requires { ⌜ SmallPlanned p ⌝ }
     ensures { λ _. ⌜ now (out .exit) ≡ writtenOver (numbersOf p) (now (out .entry)) ⌝ }
 {
@@ -102,7 +135,7 @@ fn put_planned(out: &mut [u32; 12], p: Planned)
 }
 
 // A table or a sheet that is made: how many rows or bytes.
-fn put_size(out: &mut [u32; 12], size: usize)
+fn put_size(out: &mut [u32; OUT], size: usize)
     requires { ⌜ size ≤ 8192 ⌝ }
     ensures { λ _. ⌜ now (out .exit) ≡ writtenOver (0 ∷ 0 ∷ size ∷ []) (now (out .entry)) ⌝ }
 {
@@ -112,7 +145,7 @@ fn put_size(out: &mut [u32; 12], size: usize)
 }
 
 // An entry call.
-fn put_entry(sheet: &[u8], area: &[u8], e: Entry, out: &mut [u32; 12])
+fn put_entry(sheet: &[u8], area: &[u8], e: Entry, out: &mut [u32; OUT])
     ensures { λ _. ⌜ now (out .exit) ≡ writtenOver (recordedOut (sheetRecorded (now (sheet .entry)) (now (area .entry)) e)) (now (out .entry)) ⌝ }
 {
     let recorded = controller::record(sheet, area, e);
@@ -126,7 +159,7 @@ fn put_entry(sheet: &[u8], area: &[u8], e: Entry, out: &mut [u32; 12])
 }
 
 // The writer's answer, with the sheet in the lent buffer. (The numbers by value: an array tells its length, a reference to one does not.)
-fn put_sheet(fields: [u32; 40], sheet: &mut [u8], out: &mut [u32; 12])
+fn put_sheet(fields: [u32; 40], sheet: &mut [u8], out: &mut [u32; OUT])
     ensures { λ _. ⌜ (now (out .exit), now (sheet .exit)) ≡ sheetOver (now (out .entry)) (sheetWritten fields (now (sheet .entry))) ⌝ }
 {
     match controller::write(fields, sheet) {
@@ -135,11 +168,12 @@ fn put_sheet(fields: [u32; 40], sheet: &mut [u8], out: &mut [u32; 12])
     }
 }
 
-// ---- the eight calls
+// ---- the nine calls
 
-// Clean or torn: open day, depletion, waiting rain, waiting irrigation, season rain, irrigation, use, percolation, place. Refusals 1 to 9.
+// Clean or torn: open day, depletion, waiting rain, waiting irrigation, season rain, irrigation, use, percolation, place, need, and need and use of
+// each stage. Refusals 1 to 9.
 #[no_mangle]
-pub extern "C" fn balladsky_open(sheet: &[u8], area: &[u8], out: &mut [u32; 12])
+pub extern "C" fn balladsky_open(sheet: &[u8], area: &[u8], out: &mut [u32; OUT])
     ensures { λ _. ⌜ now (out .exit) ≡ writtenOver (opened.numbersOf (sheetOpened (now (sheet .entry)) (now (area .entry)))) (now (out .entry)) ⌝ }
 {
     match controller::open(sheet, area) {
@@ -151,7 +185,7 @@ pub extern "C" fn balladsky_open(sheet: &[u8], area: &[u8], out: &mut [u32; 12])
 
 // Start, count, four bytes. Refusals 1 to 14.
 #[no_mangle]
-pub extern "C" fn balladsky_rain(sheet: &[u8], area: &[u8], amount: u32, out: &mut [u32; 12])
+pub extern "C" fn balladsky_rain(sheet: &[u8], area: &[u8], amount: u32, out: &mut [u32; OUT])
     ensures { λ _. ⌜ now (out .exit) ≡ writtenOver (recordedOut (sheetRecorded (now (sheet .entry)) (now (area .entry)) (Water Rain amount))) (now (out .entry)) ⌝ }
 {
     put_entry(sheet, area, Entry::Water(Source::Rain, amount), out);
@@ -159,7 +193,7 @@ pub extern "C" fn balladsky_rain(sheet: &[u8], area: &[u8], amount: u32, out: &m
 
 // Start, count, four bytes. Refusals 1 to 14.
 #[no_mangle]
-pub extern "C" fn balladsky_irrigation(sheet: &[u8], area: &[u8], amount: u32, out: &mut [u32; 12])
+pub extern "C" fn balladsky_irrigation(sheet: &[u8], area: &[u8], amount: u32, out: &mut [u32; OUT])
     ensures { λ _. ⌜ now (out .exit) ≡ writtenOver (recordedOut (sheetRecorded (now (sheet .entry)) (now (area .entry)) (Water Irrigation amount))) (now (out .entry)) ⌝ }
 {
     put_entry(sheet, area, Entry::Water(Source::Irrigation, amount), out);
@@ -167,7 +201,7 @@ pub extern "C" fn balladsky_irrigation(sheet: &[u8], area: &[u8], amount: u32, o
 
 // Start, count, four bytes. Refusals 1 to 11, and 14.
 #[no_mangle]
-pub extern "C" fn balladsky_close(sheet: &[u8], area: &[u8], out: &mut [u32; 12])
+pub extern "C" fn balladsky_close(sheet: &[u8], area: &[u8], out: &mut [u32; OUT])
     ensures { λ _. ⌜ now (out .exit) ≡ writtenOver (recordedOut (sheetRecorded (now (sheet .entry)) (now (area .entry)) Close)) (now (out .entry)) ⌝ }
 {
     put_entry(sheet, area, Entry::Close, out);
@@ -175,7 +209,7 @@ pub extern "C" fn balladsky_close(sheet: &[u8], area: &[u8], out: &mut [u32; 12]
 
 // Count, three places, highest first. Refusals 1 to 9.
 #[no_mangle]
-pub extern "C" fn balladsky_mend(sheet: &[u8], area: &[u8], out: &mut [u32; 12])
+pub extern "C" fn balladsky_mend(sheet: &[u8], area: &[u8], out: &mut [u32; OUT])
     ensures { λ _. ⌜ now (out .exit) ≡ writtenOver (mendedOut (sheetMended (now (sheet .entry)) (now (area .entry)))) (now (out .entry)) ⌝ }
 {
     let mended = controller::mend(sheet, area);
@@ -187,9 +221,25 @@ pub extern "C" fn balladsky_mend(sheet: &[u8], area: &[u8], out: &mut [u32; 12])
     }
 }
 
+// The season's loss, and the four stages'. Refusals 1 to 9, 17 and 10.
+#[no_mangle]
+pub extern "C" fn balladsky_loss(sheet: &[u8], area: &[u8], ky: u32, out: &mut [u32; OUT])
+    ensures { λ _. ⌜ now (out .exit) ≡ writtenOver (lossNumbers (sheetLost (now (sheet .entry)) (now (area .entry)) ky)) (now (out .entry)) ⌝ }
+{
+    match controller::loss(sheet, area, ky) {
+        Lost::Parts(p) => put_losses(out, p),
+        Lost::Refused(number, value) => put_refusal(out, number, value),
+    }
+}
+
 // Waterings, net, gross; a depth for each remaining day in the lent buffer. Refusals 1 to 11, 15 and 16.
 #[no_mangle]
-pub extern "C" fn balladsky_plan(sheet: &[u8], area: &[u8], depths: &mut [u32], out: &mut [u32; 12])
+pub extern "C" fn balladsky_plan(
+    sheet: &[u8],
+    area: &[u8],
+    depths: &mut [u32],
+    out: &mut [u32; OUT],
+)
     ensures { λ _. ⌜ (now (out .exit), now (depths .exit)) ≡ plannedOver (now (out .entry)) (sheetPlanned (now (sheet .entry)) (now (area .entry)) (now (depths .entry))) ⌝ }
 {
     put_planned(out, controller::plan(sheet, area, depths));
@@ -197,7 +247,7 @@ pub extern "C" fn balladsky_plan(sheet: &[u8], area: &[u8], depths: &mut [u32], 
 
 // Rows; six numbers a row in the lent buffer. Refusals 1 to 7, and 15.
 #[no_mangle]
-pub extern "C" fn balladsky_table(sheet: &[u8], rows: &mut [u32], out: &mut [u32; 12])
+pub extern "C" fn balladsky_table(sheet: &[u8], rows: &mut [u32], out: &mut [u32; OUT])
     ensures { λ _. ⌜ (now (out .exit), now (rows .exit)) ≡ tabledOver (now (out .entry)) (sheetTabled (now (sheet .entry)) (now (rows .entry))) ⌝ }
 {
     match controller::table(sheet, rows) {
@@ -208,7 +258,7 @@ pub extern "C" fn balladsky_table(sheet: &[u8], rows: &mut [u32], out: &mut [u32
 
 // Bytes; the sheet in the lent buffer. Refusals 4 to 7, and 15.
 #[no_mangle]
-pub extern "C" fn balladsky_write(fields: &[u32; 40], sheet: &mut [u8], out: &mut [u32; 12])
+pub extern "C" fn balladsky_write(fields: &[u32; 40], sheet: &mut [u8], out: &mut [u32; OUT])
     ensures { λ _. ⌜ (now (out .exit), now (sheet .exit)) ≡ sheetOver (now (out .entry)) (sheetWritten (now (fields .entry)) (now (sheet .entry))) ⌝ }
 {
     let own = *fields;

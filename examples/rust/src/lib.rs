@@ -1,10 +1,10 @@
-//! The eight calls of include/balladsky.h for Rust. The header says what each writes and what its names stand for; a
+//! The nine calls of include/balladsky.h for Rust. The header says what each writes and what its names stand for; a
 //! reference here has what the header asks of a pointer.
 
 /// What a call writes: document 01's number, the number returned with it, then the answer.
 pub type Out = [u32; OUT];
 
-pub const OUT: usize = 12;
+pub const OUT: usize = 20;
 pub const AREA: usize = 8192;
 pub const DEPTHS: usize = 275;
 pub const ROWS: usize = 174;
@@ -29,6 +29,7 @@ pub const DAY_OVERFULL: u32 = 13;
 pub const AREA_FULL: u32 = 14;
 pub const BUFFER_TOO_SHORT: u32 = 15;
 pub const NO_CHOICE: u32 = 16;
+pub const KY_OUT_OF_RANGE: u32 = 17;
 
 mod c {
     extern "C" {
@@ -37,6 +38,9 @@ mod c {
         pub fn balladsky_irrigation(sheet: *const u8, sheet_length: usize, area: *const u8, area_length: usize, amount: u32, out: *mut u32);
         pub fn balladsky_close(sheet: *const u8, sheet_length: usize, area: *const u8, area_length: usize, out: *mut u32);
         pub fn balladsky_mend(sheet: *const u8, sheet_length: usize, area: *const u8, area_length: usize, out: *mut u32);
+        pub fn balladsky_loss(
+            sheet: *const u8, sheet_length: usize, area: *const u8, area_length: usize, ky: u32, out: *mut u32,
+        );
         pub fn balladsky_plan(
             sheet: *const u8, sheet_length: usize, area: *const u8, area_length: usize, depths: *mut u32, depths_length: usize, out: *mut u32,
         );
@@ -63,6 +67,10 @@ pub fn close(sheet: &[u8], area: &[u8], out: &mut Out) {
 
 pub fn mend(sheet: &[u8], area: &[u8], out: &mut Out) {
     unsafe { c::balladsky_mend(sheet.as_ptr(), sheet.len(), area.as_ptr(), area.len(), out.as_mut_ptr()) }
+}
+
+pub fn loss(sheet: &[u8], area: &[u8], ky: u32, out: &mut Out) {
+    unsafe { c::balladsky_loss(sheet.as_ptr(), sheet.len(), area.as_ptr(), area.len(), ky, out.as_mut_ptr()) }
 }
 
 pub fn plan(sheet: &[u8], area: &[u8], depths: &mut [u32], out: &mut Out) {

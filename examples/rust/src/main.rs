@@ -1,6 +1,6 @@
-//! A season of four days on the small sheet of document 01, with two power cuts. Prints the decade table and the
-//! ledger.
-use balladsky::{close, irrigation, mend, open, plan, rain, table, Out, ACCEPTED, DEPTHS, OUT, ROWS, TORN};
+//! A season of four days on the small sheet of document 01, with two power cuts. Prints the decade table, the ledger
+//! and the lost yield.
+use balladsky::{close, irrigation, loss, mend, open, plan, rain, table, Out, ACCEPTED, DEPTHS, OUT, ROWS, TORN};
 
 /// 1 9; 1 1 1 1; 40 100 60; 500 and eleven 0; twelve 0; 100 20 20 50; 75; 0; turns 127.
 const SHEET: [u8; 41] = [
@@ -79,11 +79,22 @@ impl Firmware {
         self.accepted("open");
         let names = [
             "open day", "depletion", "waiting rain", "waiting irrigation", "season rain", "season irrigation",
-            "season use", "season percolation", "place",
+            "season use", "season percolation", "place", "season need",
         ];
         for (name, value) in names.iter().zip(&self.out[2..]) {
             println!("{name} {value}");
         }
+        for (stage, sums) in ["initial", "development", "mid", "late"].iter().zip(self.out[12..].chunks(2)) {
+            println!("{stage} need {}, use {}", sums[0], sums[1]);
+        }
+    }
+
+    /// The season's and the four stages', in ten-thousandths.
+    fn print_loss(&mut self, ky: u32) {
+        loss(&SHEET, &self.area, ky, &mut self.out);
+        self.accepted("loss");
+        let [_, _, season, initial, development, mid, late, ..] = self.out;
+        println!("loss with Ky {ky}: season {season}, stages {initial} {development} {mid} {late}");
     }
 }
 
@@ -102,4 +113,5 @@ fn main() {
     f.close_day(3);
     f.close_day(4);
     f.print_ledger();
+    f.print_loss(100);
 }
