@@ -1,22 +1,22 @@
 //! Compares the static library with the plain implementation on random cases: sheets valid, damaged and written,
 //! journals clean, torn and damaged, areas of 0 to 8,193 bytes, histories with a cut after every store. The whole of
 //! `out` and of each lent buffer is compared, noise beyond the answer included; histories are compared with the book
-//! too. In every case each buffer that the library is given ends before a guard page or begins behind one, so that a
-//! read or write past it is a fault, and sheet, area and fields must be as they were. Then lengths from 2^16 to 2^32 and
-//! a little more, which are other lengths to whoever keeps fewer bits. Prints its seed; stops with status 1 at the first
-//! difference or fault.
+//! too, and lost yield with document 02's cases. In every case each buffer that the library is given ends before a
+//! guard page or begins behind one, so that a read or write past it is a fault, and sheet, area and fields must be as
+//! they were. Then lengths from 2^16 to 2^32 and a little more, which are other lengths to whoever keeps fewer bits.
+//! Prints its seed; stops with status 1 at the first difference or fault.
 //!
 //!     cargo run --release --manifest-path harness/Cargo.toml [SEED]
-use balladsky as library;
+use balladsky::{self as library, Out, OUT};
 use harness::memory::{self, Guarded, Side};
 use harness::numbers;
 use harness::plain::book::{self, Book, Call};
 use harness::plain::{self, Opened};
 use harness::random::{self, Dice};
 
-/// A call, with what it is given beside sheet and area. Plan and table: how many numbers are lent.
+/// A call, with what it is given beside sheet and area. Loss: Ky. Plan and table: how many numbers are lent.
 #[derive(Clone, Copy, Debug)]
-enum Ask { Open, Rain(u32), Irrigation(u32), Close, Mend, Plan(usize), Table(usize) }
+enum Ask { Open, Rain(u32), Irrigation(u32), Close, Mend, Loss(u32), Plan(usize), Table(usize) }
 
 impl Ask {
     /// Which of the calls on a sheet it is, from 0.
@@ -27,8 +27,9 @@ impl Ask {
             Ask::Irrigation(_) => 2,
             Ask::Close => 3,
             Ask::Mend => 4,
-            Ask::Plan(_) => 5,
-            Ask::Table(_) => 6,
+            Ask::Loss(_) => 5,
+            Ask::Plan(_) => 6,
+            Ask::Table(_) => 7,
         }
     }
 
@@ -42,9 +43,9 @@ impl Ask {
 }
 
 /// `out` and the lent buffer.
-type Answer = ([u32; 12], Vec<u32>);
+type Answer = (Out, Vec<u32>);
 
-fn by_library(sheet: &[u8], area: &[u8], ask: Ask, out: &mut [u32; 12], lent: &mut [u32]) {
+fn by_library(sheet: &[u8], area: &[u8], ask: Ask, out: &mut Out, lent: &mut [u32]) {
     let message = || format!("the library's {ask:?} touched what it was not given\n{}", given(sheet, area));
     memory::watched(&message, || match ask {
         Ask::Open => library::open(sheet, area, out),
@@ -52,18 +53,20 @@ fn by_library(sheet: &[u8], area: &[u8], ask: Ask, out: &mut [u32; 12], lent: &m
         Ask::Irrigation(v) => library::irrigation(sheet, area, v, out),
         Ask::Close => library::close(sheet, area, out),
         Ask::Mend => library::mend(sheet, area, out),
+        Ask::Loss(ky) => library::loss(sheet, area, ky, out),
         Ask::Plan(_) => library::plan(sheet, area, lent, out),
         Ask::Table(_) => library::table(sheet, lent, out),
     })
 }
 
-fn by_plain(sheet: &[u8], area: &[u8], ask: Ask, out: &mut [u32; 12], lent: &mut [u32]) {
+fn by_plain(sheet: &[u8], area: &[u8], ask: Ask, out: &mut Out, lent: &mut [u32]) {
     let numbers = match ask {
         Ask::Open => numbers::opened(plain::open(sheet, area)),
         Ask::Rain(v) => numbers::recorded(plain::rain(sheet, area, v)),
         Ask::Irrigation(v) => numbers::recorded(plain::irrigation(sheet, area, v)),
         Ask::Close => numbers::recorded(plain::close(sheet, area)),
         Ask::Mend => numbers::mended(plain::mend(sheet, area)),
+        Ask::Loss(ky) => numbers::lost(plain::loss(sheet, area, ky)),
         Ask::Plan(_) => numbers::planned(plain::plan(sheet, area, lent)),
         Ask::Table(_) => numbers::tabled(plain::table(sheet, lent)),
     };
@@ -71,10 +74,10 @@ fn by_plain(sheet: &[u8], area: &[u8], ask: Ask, out: &mut [u32; 12], lent: &mut
 }
 
 /// The kind of the writer, behind those of the calls on a sheet.
-const WRITE: usize = 7;
+const WRITE: usize = 8;
 
 /// `out` and the bytes lent to the writer.
-type Sheet = ([u32; 12], Vec<u8>);
+type Sheet = (Out, Vec<u8>);
 
 /// At most 8,193 bytes are shown.
 fn hex(bytes: &[u8]) -> String {
@@ -109,7 +112,7 @@ impl Guards {
         let side = |bit: u32| if sides >> bit & 1 == 0 { Side::Ends } else { Side::Begins };
         let (s, a) = (self.sheet.bytes(sheet, side(0)), self.area.bytes(area, side(1)));
         let (out, lent) = (self.out.numbers(&before.0, side(2)), self.lent.numbers(&before.1, side(3)));
-        let out: &mut [u32; 12] = out.try_into().unwrap();
+        let out: &mut Out = out.try_into().unwrap();
         by_library(s, a, ask, out, lent);
         let answer = (*out, lent.to_vec());
         if (&*s, &*a) != (sheet, area) {
@@ -125,7 +128,7 @@ impl Guards {
         let side = |bit: u32| if sides >> bit & 1 == 0 { Side::Ends } else { Side::Begins };
         let (f, s) = (self.lent.numbers(fields, side(0)), self.sheet.bytes(&before.1, side(1)));
         let f: &[u32; 40] = (&*f).try_into().unwrap();
-        let out: &mut [u32; 12] = self.out.numbers(&before.0, side(2)).try_into().unwrap();
+        let out: &mut Out = self.out.numbers(&before.0, side(2)).try_into().unwrap();
         let message = || format!("the library's write touched what it was not given\nfields {fields:?}, {} bytes", before.1.len());
         memory::watched(&message, || library::write(f, s, out));
         assert_eq!(f, fields, "the fields were written");
@@ -136,15 +139,15 @@ impl Guards {
 }
 
 /// What `out` holds before a call.
-fn noisy(noise: u32) -> [u32; 12] {
+fn noisy(noise: u32) -> Out {
     std::array::from_fn(|i| noise.wrapping_mul(i as u32 + 1))
 }
 
-struct Tally { cases: u64, answers: [[u64; 17]; 8], guards: Guards }
+struct Tally { cases: u64, answers: [[u64; 18]; 9], guards: Guards }
 
 impl Tally {
     /// One case: both are asked the same, with the same noise in what is lent.
-    fn same(&mut self, g: &mut Dice, sheet: &[u8], area: &[u8], ask: Ask) -> [u32; 12] {
+    fn same(&mut self, g: &mut Dice, sheet: &[u8], area: &[u8], ask: Ask) -> Out {
         let noise = g.next() as u32;
         let mut right: Answer = (noisy(noise), (0..ask.lent() as u32).map(|i| noise ^ i).collect());
         let left = self.guards.ask(sheet, area, ask, &right, noise >> 28);
@@ -177,8 +180,9 @@ impl Tally {
     /// All calls on a sheet.
     fn all(&mut self, g: &mut Dice, sheet: &[u8], area: &[u8]) {
         let (depths, rows) = (g.pick(&[0, 1, 5, 11, 274, 275, 276]), g.pick(&[0, 5, 6, 11, 12, 167, 168, 173, 174, 175]));
-        let (a, b) = (random::amount(g), random::amount(g));
-        for ask in [Ask::Open, Ask::Rain(a), Ask::Irrigation(b), Ask::Close, Ask::Mend, Ask::Plan(depths), Ask::Table(rows)] {
+        let (a, b, ky) = (random::amount(g), random::amount(g), random::ky(g));
+        let on_journal = [Ask::Open, Ask::Rain(a), Ask::Irrigation(b), Ask::Close, Ask::Mend, Ask::Loss(ky)];
+        for ask in on_journal.into_iter().chain([Ask::Plan(depths), Ask::Table(rows)]) {
             self.same(g, sheet, area, ask);
         }
     }
@@ -273,7 +277,76 @@ fn journals(t: &mut Tally, g: &mut Dice) {
     }
 }
 
-/// Plans and tables of long seasons, on clean journals.
+/// Lost yield: document 02's cases, the largest sums, and every Ky at an edge on journals and sheets of every kind.
+fn losses(t: &mut Tally, g: &mut Dice) {
+    let small = random::small(127);
+    let dry = random::with(small, &[(39, 1_500)]);
+    let twos = random::with(dry, &[(3, 2), (4, 2), (5, 2), (6, 2)]);
+    let needless = random::with(small, &[(10, 0)]);
+    let closes = |days| (1..=days).flat_map(|d| book::bytes(book::Entry::Close(d))).collect::<Vec<u8>>();
+    // So many dry days closed: F, need and use of each stage, and the losses by each Ky.
+    let cases: [([u32; 40], u32, [u32; 9], &[(u32, [u32; 5])]); 6] = [
+        (small, 0, [0; 9], &[(200, [0; 5])]),
+        (small, 4, [1_500, 200, 200, 500, 500, 500, 500, 300, 240], &[
+            (1, [4, 0, 0, 0, 20]), (100, [400, 0, 0, 0, 2_000]), (200, [800, 0, 0, 0, 4_000]),
+        ]),
+        (dry, 1, [200, 200, 100, 0, 0, 0, 0, 0, 0], &[(100, [5_000, 5_000, 0, 0, 0])]),
+        (dry, 4, [1_500, 200, 100, 500, 200, 500, 100, 300, 30], &[
+            (100, [7_133, 5_000, 6_000, 8_000, 9_000]), (125, [8_916, 6_250, 7_500, 10_000, 10_000]),
+            (150, [10_000, 7_500, 9_000, 10_000, 10_000]),
+        ]),
+        (twos, 3, [750, 400, 180, 350, 112, 0, 0, 0, 0], &[(100, [6_106, 5_500, 6_800, 0, 0])]),
+        (needless, 4, [0; 9], &[(200, [0; 5])]),
+    ];
+    for (fields, days, sums, by_ky) in cases {
+        let (sheet, mut area) = (plain::write_sheet(&fields), closes(days));
+        area.resize(area.len() + g.of(0, 9) as usize, 0xff);
+        assert_eq!(t.same(g, &sheet, &area, Ask::Open)[11..], sums, "document 02's sums, {days} days of {fields:?}");
+        for &(ky, want) in by_ky {
+            let out = t.same(g, &sheet, &area, Ask::Loss(ky));
+            assert_eq!((&out[..2], &out[2..7]), (&[0, 0][..], &want[..]), "document 02's losses, Ky {ky}, {fields:?}");
+        }
+    }
+    let (torn, torn_later, damaged) = ([1, 0xac, 0xff, 0xff], [3, 1, 1, 0xac, 0xff, 0xff], [0xff, 0xac, 0xff, 0xff]);
+    let (closed, blank, long) = (closes(4), [0xff; 8], [0xff; 8_193]);
+    let refused: [(&[u8], u32, [u32; 2]); 10] = [
+        (&torn, 0, [17, 0]), (&torn, 1, [10, 0]), (&torn_later, 201, [17, 0]), (&torn_later, 200, [10, 2]),
+        (&damaged, 0, [9, 0]), (&long, 201, [8, 0]), (&closed, 201, [17, 0]), (&closed, 0, [17, 0]),
+        (&blank, u32::MAX, [17, 0]), (&[], 0, [17, 0]),
+    ];
+    let sheet = plain::write_sheet(&small);
+    for (area, ky, want) in refused {
+        assert_eq!(t.same(g, &sheet, area, Ask::Loss(ky))[..2], want, "Ky {ky} on {area:02x?}");
+    }
+    // 275 days of need 3,000 and no use: 100 × Ky × F passes 32 bits from Ky 53 on.
+    let mut most = random::with(small, &[(3, 45), (4, 70), (5, 90), (6, 70), (34, 1), (35, 10), (36, 10), (39, 10)]);
+    most[6..9].fill(200);
+    most[9..21].fill(1_500);
+    let (most, area) = (plain::write_sheet(&most), closes(275));
+    let sums = [825_000, 135_000, 0, 210_000, 0, 270_000, 0, 210_000, 0];
+    assert_eq!(t.same(g, &most, &area, Ask::Open)[11..], sums, "the largest sums");
+    for ky in 1..=200 {
+        let out = t.same(g, &most, &area, Ask::Loss(ky));
+        assert_eq!(out[2..7], [(100 * ky).min(10_000); 5], "no use at all, Ky {ky}");
+    }
+    // A sheet of each refusal, and two accepted.
+    let spoilt = |changes: &[(usize, u32)]| plain::write_sheet(&random::with(small, changes));
+    let sheets = [
+        vec![], [&sheet[..40], &[0x80, 0]].concat(), [&sheet[..], &[0]].concat(), spoilt(&[(2, 32)]),
+        spoilt(&[(3, 200), (4, 76)]), spoilt(&[(35, 21)]), spoilt(&[(39, 2_001)]), spoilt(&[(39, 2_000)]), sheet,
+    ];
+    for (number, sheet) in [1, 2, 3, 4, 5, 6, 7].into_iter().zip(&sheets) {
+        assert_eq!(t.same(g, sheet, &long, Ask::Loss(0))[0], number, "the sheet is judged first");
+    }
+    let areas: [&[u8]; 8] = [&[], &blank, &torn, &torn_later, &damaged, &long, &closed, &closed[..6]];
+    for (sheet, area) in sheets.iter().flat_map(|s| areas.map(|a| (s, a))) {
+        for ky in random::KYS {
+            t.same(g, sheet, area, Ask::Loss(ky));
+        }
+    }
+}
+
+/// Plans, tables and losses of long seasons, on clean journals.
 fn plans(t: &mut Tally, g: &mut Dice) {
     for _ in 0..10_000 {
         let sheet = plain::write_sheet(&random::fields(g, plain::DAYS as u32));
@@ -284,6 +357,8 @@ fn plans(t: &mut Tally, g: &mut Dice) {
             t.same(g, &sheet, &area, Ask::Plan(room));
         }
         t.same(g, &sheet, &[], Ask::Table(6 * plain::ROWS));
+        let ky = g.of(1, 200);
+        t.same(g, &sheet, &area, Ask::Loss(ky));
     }
 }
 
@@ -297,7 +372,7 @@ fn asking(call: Call) -> Ask {
 }
 
 /// The stores that an answer hands back, in order.
-fn stores(call: Call, out: &[u32; 12]) -> Vec<(usize, u8)> {
+fn stores(call: Call, out: &Out) -> Vec<(usize, u8)> {
     match call {
         _ if out[0] != library::ACCEPTED => Vec::new(),
         Call::Mend => (0..out[2] as usize).map(|i| (out[3 + i] as usize, 0xff)).collect(),
@@ -305,7 +380,16 @@ fn stores(call: Call, out: &[u32; 12]) -> Vec<(usize, u8)> {
     }
 }
 
+/// What the library answered must begin as the book's answer does.
+fn as_the_book(sheet: &[u8], area: &[u8], ask: Ask, out: Out, want: &[u32]) {
+    if out[..want.len()] != *want {
+        println!("the book answers {want:?}");
+        differ("the book", sheet, area, ask, &(out, Vec::new()), &([0; OUT], Vec::new()));
+    }
+}
+
 /// Histories: after every call each cut is opened, and asked what comes next; then one of the cuts is what happened.
+/// The losses are those of the book's ledger, after each cut by one Ky and after the last call by each at an edge.
 fn histories(t: &mut Tally, g: &mut Dice) -> (u64, u64) {
     let (mut calls, mut torn) = (0, 0);
     for history in 1..=1_200 {
@@ -333,8 +417,9 @@ fn histories(t: &mut Tally, g: &mut Dice) -> (u64, u64) {
             let want = book.answer(call);
             if (want.number, want.value as u32, &want.stores) != (out[0], out[1], &handed) {
                 println!("the book answers {want:?}");
-                differ("the book", &sheet, &area, asking(call), &(out, Vec::new()), &([0; 12], Vec::new()));
+                differ("the book", &sheet, &area, asking(call), &(out, Vec::new()), &([0; OUT], Vec::new()));
             }
+            let ky = random::ky(g);
             for done in 0..=handed.len() {
                 let (mut cut, mut after) = (area.clone(), book.clone());
                 for &(place, byte) in &handed[..done] {
@@ -343,11 +428,9 @@ fn histories(t: &mut Tally, g: &mut Dice) -> (u64, u64) {
                 after.call(call, done);
                 torn += matches!(after.open(), Opened::Torn(..)) as u64;
                 let found = t.same(g, &sheet, &cut, Ask::Open);
-                let want = numbers::opened(after.open());
-                if found[..want.len()] != want[..] {
-                    println!("the book opens as {want:?}");
-                    differ("the book", &sheet, &cut, Ask::Open, &(found, Vec::new()), &([0; 12], Vec::new()));
-                }
+                as_the_book(&sheet, &cut, Ask::Open, found, &numbers::opened(after.open()));
+                let lost = t.same(g, &sheet, &cut, Ask::Loss(ky));
+                as_the_book(&sheet, &cut, Ask::Loss(ky), lost, &numbers::lost(after.loss(ky)));
                 for next in [Ask::Mend, Ask::Close, Ask::Rain(amount), Ask::Irrigation(amount)] {
                     t.same(g, &sheet, &cut, next);
                 }
@@ -359,6 +442,10 @@ fn histories(t: &mut Tally, g: &mut Dice) -> (u64, u64) {
             book.call(call, done);
         }
         t.same(g, &sheet, &area, Ask::Plan(plain::DAYS));
+        for ky in random::KYS {
+            let lost = t.same(g, &sheet, &area, Ask::Loss(ky));
+            as_the_book(&sheet, &area, Ask::Loss(ky), lost, &numbers::lost(book.loss(ky)));
+        }
     }
     (calls, torn)
 }
@@ -377,7 +464,8 @@ fn ends(lent: &[u32]) -> Vec<u32> {
 struct Long { sheet: &'static mut [u8], area: &'static mut [u8], lent: [&'static mut [u32]; 2], cases: u64 }
 
 /// The calls on a journal; a plan of the small sheet takes four numbers.
-const ON_JOURNAL: [Ask; 6] = [Ask::Open, Ask::Rain(300), Ask::Irrigation(700), Ask::Close, Ask::Mend, Ask::Plan(4)];
+const ON_JOURNAL: [Ask; 7] =
+    [Ask::Open, Ask::Rain(300), Ask::Irrigation(700), Ask::Close, Ask::Mend, Ask::Loss(100), Ask::Plan(4)];
 
 const SMALL: usize = 41;
 
@@ -482,12 +570,13 @@ fn main() {
     let seed = std::env::args().nth(1).map_or(20_261_115, |s| s.parse().expect("the seed is a number"));
     println!("seed {seed}");
     let mut g = Dice(seed);
-    let mut t = Tally { cases: 0, answers: [[0; 17]; 8], guards: Guards::new() };
+    let mut t = Tally { cases: 0, answers: [[0; 18]; 9], guards: Guards::new() };
     memory::report_faults();
-    let parts: [(&str, fn(&mut Tally, &mut Dice)); 6] = [
+    let parts: [(&str, fn(&mut Tally, &mut Dice)); 7] = [
         ("sheets, valid and damaged", sheets), ("sheets written", writer), ("the longest season and a day more, from every date", longest),
         ("areas of 0 to 8,193 bytes", lengths), ("journals clean, torn and damaged", journals),
-        ("plans and tables of long seasons", plans),
+        ("lost yield, document 02's cases and every Ky at an edge", losses),
+        ("plans, tables and losses of long seasons", plans),
     ];
     for (name, part) in parts {
         let before = t.cases;
@@ -499,7 +588,8 @@ fn main() {
     println!("histories, a cut after every store: {} cases, {calls} calls, {torn} torn openings", t.cases - before);
     println!("guard pages: {} buffers ended before one, {} began behind one", t.guards.ended, t.guards.began);
     println!("lengths of 2^16, 2^31 and 2^32 and more: {} cases beside those counted below", long_lengths());
-    for (name, seen) in ["open", "rain", "irrigation", "close", "mend", "plan", "table", "write"].iter().zip(t.answers) {
+    let names = ["open", "rain", "irrigation", "close", "mend", "loss", "plan", "table", "write"];
+    for (name, seen) in names.iter().zip(t.answers) {
         let seen: Vec<String> = seen.iter().enumerate().filter(|(_, n)| **n > 0).map(|(k, n)| format!("{k}: {n}")).collect();
         println!("{name}, answers by number: {}", seen.join(", "));
     }

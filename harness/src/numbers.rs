@@ -1,10 +1,11 @@
 //! The numbers that the exported calls write to `out`, made of the plain implementation's answers: the refusal's number,
 //! the number returned with it, then the answer.
-use crate::plain::{Ledger, Mended, Opened, Planned, Recorded, Tabled, Written};
+use crate::plain::{Ledger, Lost, Mended, Opened, Planned, Recorded, Tabled, Written};
 
 fn found(number: u32, place: usize, l: Ledger) -> Vec<u32> {
     let depths = [l.day, l.depletion, l.waiting_rain, l.waiting_irrigation, l.rain, l.irrigation, l.used, l.percolation];
-    [&[number, place as u32][..], &depths, &[l.place as u32]].concat()
+    let stages = l.stages.map(|s| [s.need, s.used]);
+    [&[number, place as u32][..], &depths, &[l.place as u32, l.need], stages.as_flattened()].concat()
 }
 
 pub fn opened(o: Opened) -> Vec<u32> {
@@ -31,6 +32,11 @@ pub fn recorded(r: Recorded) -> Vec<u32> {
 pub fn mended(m: Mended) -> Vec<u32> {
     let [a, b, c] = m.places.map(|p| p as u32);
     answered(m.number, m.value, &[m.count as u32, a, b, c])
+}
+
+pub fn lost(l: Lost) -> Vec<u32> {
+    let [a, b, c, d] = l.stages;
+    answered(l.number, l.value, &[l.season, a, b, c, d])
 }
 
 pub fn planned(p: Planned) -> Vec<u32> {

@@ -138,6 +138,18 @@ pub fn amount(g: &mut Dice) -> u32 {
     }
 }
 
+/// Yield response factors at the edges of their range, past them and between.
+pub const KYS: [u32; 12] = [0, 1, 2, 99, 100, 105, 125, 150, 199, 200, 201, u32::MAX];
+
+/// One of these, or any.
+pub fn ky(g: &mut Dice) -> u32 {
+    match g.of(0, 3) {
+        0 | 1 => g.pick(&KYS),
+        2 => g.of(1, 200),
+        _ => g.next() as u32 >> g.of(0, 31),
+    }
+}
+
 /// A clean journal made with the calls themselves.
 pub fn journal(g: &mut Dice, s: &Season, sheet: &[u8], length: usize) -> (Vec<u8>, Ledger) {
     let mut area = vec![0xff; length];

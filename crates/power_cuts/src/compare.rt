@@ -1,11 +1,16 @@
 // Whether an answer of the product is the model's.
 use crate::loose::unwiped;
+use crate::model;
 use crate::model::EntryBytes;
 use crate::model::Totals;
 use journal::Ledger;
+use journal::Losses;
+use journal::Lost;
 use journal::Mended;
 use journal::Opening;
 use journal::Recorded;
+use journal::StageSums;
+use journal::Stages;
 use journal::Stores;
 use verdict::Verdict;
 
@@ -41,7 +46,25 @@ pub fn same_record(r: Recorded, t: Totals, expected: u64, w: EntryBytes) -> bool
     }
 }
 
+fn same_sums(s: StageSums, need: u64, used: u64) -> bool {
+    s.need as u64 == need && s.used as u64 == used
+}
+
+fn same_stages(p: Stages, needs: [u64; 4], uses: [u64; 4]) -> bool {
+    let initial = p.initial;
+    let development = p.development;
+    let middle = p.middle;
+    let late = p.late;
+    same_sums(initial, needs[0], uses[0])
+        && same_sums(development, needs[1], uses[1])
+        && same_sums(middle, needs[2], uses[2])
+        && same_sums(late, needs[3], uses[3])
+}
+
 fn same_ledger(l: Ledger, t: Totals) -> bool {
+    let stages = l.stages;
+    let needs = t.needs;
+    let uses = t.uses;
     l.day as u64 == t.day
         && l.depletion as u64 == t.depletion
         && l.waiting_rain as u64 == t.waiting_rain
@@ -51,6 +74,8 @@ fn same_ledger(l: Ledger, t: Totals) -> bool {
         && l.used as u64 == t.used
         && l.percolation as u64 == t.percolation
         && l.place as u64 == t.place
+        && l.need as u64 == t.need
+        && same_stages(stages, needs, uses)
 }
 
 // Clean when no byte is loose, else torn at the ledger's place.
@@ -89,5 +114,24 @@ pub fn same_mend(m: Mended, bytes: [u8; 4], loose: usize, from: u64) -> bool {
             && same_place(p[2], 2, count, bytes, loose, from)
             && unwiped(&bytes, loose, count) == 4,
         Verdict::Refused(_, _) => false,
+    }
+}
+
+fn same_losses(p: Losses, t: Totals, ky: u32) -> bool {
+    let needs = t.needs;
+    let uses = t.uses;
+    p.season as u64 == model::loss(ky, t.need, t.used)
+        && p.initial as u64 == model::loss(ky, needs[0], uses[0])
+        && p.development as u64 == model::loss(ky, needs[1], uses[1])
+        && p.middle as u64 == model::loss(ky, needs[2], uses[2])
+        && p.late as u64 == model::loss(ky, needs[3], uses[3])
+}
+
+// The model's losses by a Ky, or its refusal.
+pub fn same_loss(l: Lost, t: Totals, loose: usize, ky: u32) -> bool {
+    let expected = model::loss_refusal(loose, ky);
+    match l {
+        Lost::Parts(p) => expected == 0 && same_losses(p, t, ky),
+        Lost::Refused(number, value) => same_refusal(number, value, expected, t),
     }
 }

@@ -1,4 +1,5 @@
-// A history of calls with one power cut, beside the model: each call's answer and each opening is compared with the model's.
+// A history of calls with one power cut, beside the model: each call's answer, and the opening and the losses after it, are compared with the
+// model's.
 use crate::compare;
 use crate::loose;
 use crate::model;
@@ -109,16 +110,21 @@ fn mend(
     mended(next, done)
 }
 
-// The opening after a call.
+// A yield response factor, and one that is refused.
+const KY: u32 = 125;
+
+const NO_KY: u32 = 0;
+
+// The opening and the losses after a call.
 fn opened(sheet: &[u8], block: Block, area: &[u8], entries: &[u32], b: Book) -> Book {
     let t = model::worked(block, entries, b.count);
-    with_verdict(
-        b,
-        compare::same_opening(controller::open(sheet, area), t, b.loose),
-    )
+    let same = compare::same_opening(controller::open(sheet, area), t, b.loose)
+        && compare::same_loss(controller::loss(sheet, area, KY), t, b.loose, KY)
+        && compare::same_loss(controller::loss(sheet, area, NO_KY), t, b.loose, NO_KY);
+    with_verdict(b, same)
 }
 
-// A call with so many stores done, and the opening after it.
+// A call with so many stores done, and the opening and the losses after it.
 fn step(
     sheet: &[u8],
     block: Block,

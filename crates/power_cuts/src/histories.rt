@@ -7,14 +7,16 @@ ghost use lib.ListN.{length};
 // Document 01's small sheet: C is 200, 500, 500, 300; A 100 and Z 20 give T 2,000, and p 50 gives R 1,000.
 pub const SMALL: Block = Block {
     days: 4,
+    ends: [1, 2, 3],
     need: [200, 500, 500, 300],
     total: 2000,
     ready: 1000,
 };
 
-// A season of 240 days with the same soil, ETo 300 and Kc 100: C is 300 every day.
+// A season of 240 days, 60 a stage, with the same soil, ETo 300 and Kc 100: C is 300 every day.
 pub const LONG: Block = Block {
     days: 240,
+    ends: [60, 120, 180],
     need: [300, 300, 300, 300],
     total: 2000,
     ready: 1000,

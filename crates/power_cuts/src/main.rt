@@ -1,4 +1,5 @@
-// Histories of calls, the power cut after every single store of every call: each call's answer and each opening is compared with the model's.
+// Histories of calls, the power cut after every single store of every call: each call's answer, and the opening and the losses after it, are
+// compared with the model's.
 mod compare;
 mod cuts;
 mod histories;

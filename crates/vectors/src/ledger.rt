@@ -2,7 +2,10 @@
 use crate::rules;
 use crate::sheets;
 use journal::Ledger;
+use journal::Losses;
+use journal::Lost;
 use journal::Opening;
+use journal::Stages;
 use trial::get;
 use trial::put;
 
@@ -70,7 +73,25 @@ pub fn record_day(sheet: &[u8], area: &mut [u8], rain: u32, irrigation: u32) {
     enter_close(sheet, area);
 }
 
+fn stage_number(p: Stages, which: u32) -> u64 {
+    let initial = p.initial;
+    let development = p.development;
+    let middle = p.middle;
+    let late = p.late;
+    match which {
+        11 => initial.need as u64,
+        12 => initial.used as u64,
+        13 => development.need as u64,
+        14 => development.used as u64,
+        15 => middle.need as u64,
+        16 => middle.used as u64,
+        17 => late.need as u64,
+        _ => late.used as u64,
+    }
+}
+
 fn ledger_number(l: Ledger, which: u32) -> u64 {
+    let stages = l.stages;
     match which {
         1 => l.day as u64,
         2 => l.depletion as u64,
@@ -80,16 +101,47 @@ fn ledger_number(l: Ledger, which: u32) -> u64 {
         6 => l.irrigation as u64,
         7 => l.used as u64,
         8 => l.percolation as u64,
-        _ => l.place as u64,
+        9 => l.place as u64,
+        10 => l.need as u64,
+        _ => stage_number(stages, which),
     }
 }
 
 // A number of what opening answers: 1 open day, 2 depletion, 3 and 4 waiting rain and irrigation, 5 and 6 season rain
-// and irrigation, 7 use, 8 percolation, 9 the place. 0 where the journal is not clean.
-pub fn opened(sheet: &[u8], area: &[u8], which: u32) -> u64 {
+// and irrigation, 7 use, 8 percolation, 9 the place, 10 the season's need, 11 to 18 need and use of the four stages. 0
+// where the journal is not clean.
+fn opened(sheet: &[u8], area: &[u8], which: u32) -> u64 {
     match controller::open(sheet, area) {
         Opening::Clean(l) => ledger_number(l, which),
         Opening::Torn(_, _) => 0,
         Opening::Refused(_, _) => 0,
     }
+}
+
+fn loss_number(p: Losses, which: u32) -> u64 {
+    match which {
+        20 => p.season as u64,
+        21 => p.initial as u64,
+        22 => p.development as u64,
+        23 => p.middle as u64,
+        24 => p.late as u64,
+        _ => 0,
+    }
+}
+
+// A number of what loss answers: 19 whether it refuses, 20 the season's, 21 to 24 the stages'. Where it refuses, all are
+// the refusal's number × 1000 and the number returned with it.
+fn loss_by(sheet: &[u8], area: &[u8], which: u32, ky: u32) -> u64 {
+    match controller::loss(sheet, area, ky) {
+        Lost::Parts(p) => loss_number(p, which),
+        Lost::Refused(number, value) => sheets::refusal_code(number, value),
+    }
+}
+
+// A number of the opening, up to 18, or of the loss by a Ky.
+pub fn number_of(sheet: &[u8], area: &[u8], which: u32, ky: u32) -> u64 {
+    if which < 19 {
+        return opened(sheet, area, which);
+    }
+    loss_by(sheet, area, which, ky)
 }

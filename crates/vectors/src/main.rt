@@ -5,8 +5,9 @@
 // are themselves rounded), the reason why it differs (0: it agrees), the deviation, the inputs; a label behind ';'. The
 // deviation is how far the printed figure is from what document 01's rule gives, by a separate reading of it; 0 where
 // there is no reason. A figure with a reason must be off by more than the tolerance and by at most the deviation.
-// A line that starts with '=' is the sheet that stands for the lines behind it, its forty numbers; one that starts with
-// '+' is a day; one that starts with '#' says where the figures are printed.
+// A line that starts with '=' is the sheet that stands for the lines behind it, its forty numbers, and then up to four
+// bytes that its journal starts with; one that starts with '+' is a day; one that starts with '#' says where the figures
+// are printed.
 mod ledger;
 mod rules;
 mod sheets;
@@ -16,6 +17,7 @@ mod writing;
 use text::print;
 use text::print_number;
 use trial::get;
+use trial::put_byte;
 use trial::saturating_add;
 
 // How many figures were compared, how many of them differ for a known reason, and how many are not as they should be.
@@ -137,7 +139,7 @@ fn run_numbers(
     rule: u32,
     fields: [u32; 40],
     balance: &mut [u32; 6],
-    area: &mut [u8; 512],
+    area: &mut [u8; 1024],
 ) -> Outcome {
     let mut numbers = [0u32; 96];
     text::read_numbers(line, &mut numbers);
@@ -156,13 +158,28 @@ fn starts_with(line: &[u8], b: u8) -> bool {
     trial::get_byte(line, 0) == b
 }
 
+fn byte(n: u32) -> u8 {
+    if n < 256 { n as u8 } else { 255 }
+}
+
+// The journal that a sheet's line asks for: blank but for the bytes that stand there.
+fn lay_journal(line: &[u8], area: &mut [u8; 1024]) {
+    let mut numbers = [255u32; 44];
+    text::read_numbers(line, &mut numbers);
+    *area = [255; 1024];
+    put_byte(area, 0, byte(get(&numbers, 40)));
+    put_byte(area, 1, byte(get(&numbers, 41)));
+    put_byte(area, 2, byte(get(&numbers, 42)));
+    put_byte(area, 3, byte(get(&numbers, 43)));
+}
+
 // A line that starts with '=' is a new sheet, on which no day is closed.
 fn run_line(
     line: &[u8],
     rule: u32,
     fields: &mut [u32; 40],
     balance: &mut [u32; 6],
-    area: &mut [u8; 512],
+    area: &mut [u8; 1024],
 ) -> Outcome {
     if line.len() == 0 {
         return Outcome::Nothing;
@@ -173,7 +190,7 @@ fn run_line(
     if starts_with(line, b'=') {
         text::read_numbers(line, fields);
         *balance = [0; 6];
-        *area = [255; 512];
+        lay_journal(line, area);
         return Outcome::Nothing;
     }
     run_numbers(line, rule, *fields, balance, area)
@@ -182,7 +199,7 @@ fn run_line(
 fn run_text(data: &[u8], rule: u32) -> Tally {
     let mut fields = [0u32; 40];
     let mut balance = [0u32; 6];
-    let mut area = [255u8; 512];
+    let mut area = [255u8; 1024];
     let mut all = tally_of(0, 0, 0);
     let mut at: usize = 0;
     while at < data.len() {
@@ -213,6 +230,7 @@ fn run_rules(before: Tally) -> Tally {
         .run(b"gross", rules::GROSS)
         .run(b"net", rules::NET)
         .run(b"stress", rules::USE)
+        .run(b"yield_response", rules::LOSS)
 }
 
 // Printed figures: a season's days and their numbers.
@@ -251,6 +269,7 @@ fn run_exact_rules(before: Tally) -> Tally {
         .run(b"rule_ready", rules::READY)
         .run(b"rule_gross", rules::GROSS)
         .run(b"rule_use", rules::USE)
+        .run(b"rule_loss", rules::LOSS)
         .run(b"rule_refusals", rules::REFUSAL)
         .run_again(
             b"rule_refusals",
@@ -259,6 +278,7 @@ fn run_exact_rules(before: Tally) -> Tally {
         )
         .run(b"rule_writing", rules::ROOM)
         .run(b"rule_journal", rules::JOURNAL)
+        .run(b"rule_losses", rules::JOURNAL)
 }
 
 // Document 01's rules by a separate reading of them: whole seasons.
@@ -270,6 +290,7 @@ fn run_exact_seasons(before: Tally) -> Tally {
         .run(b"season_plans", rules::PLAN)
         .run(b"season_depths", rules::DEPTH)
         .run(b"season_journals", rules::JOURNAL)
+        .run(b"season_losses", rules::JOURNAL)
 }
 
 fn main() {
@@ -279,8 +300,9 @@ fn main() {
     let bounded = run_bounded(none);
     bounded.print(b"printed, within bounds set from the deviations seen");
     let sheets = none.run(b"refusals", rules::REFUSAL)
-        .run_again(b"refusals", rules::WRITE, b"refusals, of the writer");
-    sheets.print(b"printed sheets, accepted or refused by document 01's rules");
+        .run_again(b"refusals", rules::WRITE, b"refusals, of the writer")
+        .run(b"ky", rules::JOURNAL);
+    sheets.print(b"printed sheets and Ky, accepted or refused by the documents' rules");
     let exact = run_exact_seasons(run_exact_rules(none));
     exact.print(b"document 01's rules by a separate reading");
     printed.and(bounded).and(sheets).and(exact).print(b"all");

@@ -76,11 +76,14 @@ pub const WRITE: u32 = 21;
 // What the writer answers in a buffer of so many bytes, or a byte of that buffer.
 pub const ROOM: u32 = 22;
 
-// A number of the days closed by the rule.
-pub const BALANCE: u32 = 23;
+// Yield lost, by Ky, need and use.
+pub const LOSS: u32 = 23;
 
-// A byte of the journal that the calls wrote, or a number of its opening.
-pub const JOURNAL: u32 = 24;
+// A number of the days closed by the rule.
+pub const BALANCE: u32 = 24;
+
+// A byte of the journal that the calls wrote, or a number of its opening or of its loss.
+pub const JOURNAL: u32 = 25;
 
 // Effective rain.
 fn rain(q: u32) -> u64 {
@@ -118,10 +121,22 @@ pub fn close(depletion: u32, water: u32, need: u32, total: u32, ready: u32) -> D
         }
     }
     DayClose {
+        need,
         used: 0,
         percolated: 0,
         depletion,
     }
+}
+
+// Yield lost, or 0 where more is used than needed or Ky is out of range.
+fn loss(ky: u32, need: u32, used: u32) -> u64 {
+    if 200 < ky {
+        return 0;
+    }
+    if need < used {
+        return 0;
+    }
+    season::loss_of(ky, need, used) as u64
 }
 
 // n to the nearest whole unit, a half going up. A unit is 1 or an even number.
@@ -230,11 +245,13 @@ pub fn answer(rule: u32, numbers: &[u32], fields: [u32; 40]) -> u64 {
         GROSS => gross(a, b),
         NET => season::saturating_sub(a, b) as u64,
         USE => close(a, 0, b, get(numbers, 6), get(numbers, 7)).used as u64,
+        LOSS => loss(a, b, get(numbers, 6)),
         _ => of_fields(rule, own_fields(fields, numbers), a, b),
     }
 }
 
-// The same of the days closed so far: a number of the balance; or a byte of the journal, or a number of its opening.
+// The same of the days closed so far: a number of the balance; or a byte of the journal, or a number of its opening or
+// of its loss.
 pub fn answer_after_days(
     rule: u32,
     numbers: &[u32],
@@ -252,7 +269,7 @@ pub fn answer_after_days(
     let mut bytes = [0u8; 121];
     let k = sheets::write_sheet(&fields, &mut bytes);
     let n = io::count(signed(k), &bytes);
-    ledger::opened(&bytes[..n], area, which)
+    ledger::number_of(&bytes[..n], area, which, get(numbers, 5))
 }
 
 // A day's line: need, rain and irrigation for the balance; rain and irrigation for the journal.

@@ -3,7 +3,7 @@
 //! first. Journals of mixed lengths, usual seasons and sheets to write are 32 each, taken in turn.
 //!
 //!     cargo run --release --manifest-path harness/Cargo.toml --bin bench
-use balladsky as library;
+use balladsky::{self as library, Out, OUT};
 use harness::plain::book::{bytes, Entry};
 use harness::random::{self, Dice};
 use harness::{numbers, plain};
@@ -106,8 +106,8 @@ fn journals(make: impl Fn(u64) -> Vec<u8>) -> Vec<Vec<u8>> {
 }
 
 /// The whole of `out` is the plain answer's numbers, and what it held beyond them.
-fn same(name: &str, out: &[u32; 12], want: &[u32]) {
-    assert_eq!((&out[..want.len()], &out[want.len()..]), (want, &[NOISE; 12][want.len()..]), "{name}");
+fn same(name: &str, out: &Out, want: &[u32]) {
+    assert_eq!((&out[..want.len()], &out[want.len()..]), (want, &[NOISE; OUT][want.len()..]), "{name}");
     assert_eq!(out[0], 0, "{name}");
 }
 
@@ -123,9 +123,9 @@ fn in_turn<'a, T>(each: &'a [T], mut call: impl FnMut(&T) + 'a) -> impl FnMut() 
 }
 
 fn open_line<'a>(name: &str, sheet: &'a [u8], areas: &'a [Vec<u8>]) -> Line<'a> {
-    let mut out = [NOISE; 12];
+    let mut out = [NOISE; OUT];
     for area in areas {
-        out = [NOISE; 12];
+        out = [NOISE; OUT];
         library::open(sheet, area, &mut out);
         same(name, &out, &numbers::opened(plain::open(sheet, area)));
     }
@@ -137,9 +137,9 @@ fn open_line<'a>(name: &str, sheet: &'a [u8], areas: &'a [Vec<u8>]) -> Line<'a> 
 }
 
 fn rain_line<'a>(name: &str, sheet: &'a [u8], areas: &'a [Vec<u8>]) -> Line<'a> {
-    let mut out = [NOISE; 12];
+    let mut out = [NOISE; OUT];
     for area in areas {
-        out = [NOISE; 12];
+        out = [NOISE; OUT];
         library::rain(sheet, area, 20, &mut out);
         same(name, &out, &numbers::recorded(plain::rain(sheet, area, 20)));
     }
@@ -150,8 +150,22 @@ fn rain_line<'a>(name: &str, sheet: &'a [u8], areas: &'a [Vec<u8>]) -> Line<'a> 
     )
 }
 
+fn loss_line<'a>(name: &str, sheet: &'a [u8], areas: &'a [Vec<u8>]) -> Line<'a> {
+    let mut out = [NOISE; OUT];
+    for area in areas {
+        out = [NOISE; OUT];
+        library::loss(sheet, area, 105, &mut out);
+        same(name, &out, &numbers::lost(plain::loss(sheet, area, 105)));
+    }
+    line(
+        format!("loss: {name}"),
+        in_turn(areas, move |area| library::loss(black_box(sheet), area, black_box(105), black_box(&mut out))),
+        in_turn(areas, move |area| { black_box(plain::loss(black_box(sheet), area, black_box(105))); }),
+    )
+}
+
 fn plan_line<'a>(name: &str, sheet: &'a [u8], area: &'a [u8]) -> Line<'a> {
-    let (mut out, mut ours, mut theirs) = ([NOISE; 12], [0; 275], [0; 275]);
+    let (mut out, mut ours, mut theirs) = ([NOISE; OUT], [0; 275], [0; 275]);
     library::plan(sheet, area, &mut ours, &mut out);
     same(name, &out, &numbers::planned(plain::plan(sheet, area, &mut theirs)));
     assert_eq!(ours, theirs, "{name}");
@@ -163,7 +177,7 @@ fn plan_line<'a>(name: &str, sheet: &'a [u8], area: &'a [u8]) -> Line<'a> {
 }
 
 fn table_line(sheet: &[u8]) -> Line<'_> {
-    let (mut out, mut ours, mut theirs) = ([NOISE; 12], [0; 174], [0; 174]);
+    let (mut out, mut ours, mut theirs) = ([NOISE; OUT], [0; 174], [0; 174]);
     library::table(sheet, &mut ours, &mut out);
     same("table", &out, &numbers::tabled(plain::table(sheet, &mut theirs)));
     assert_eq!(ours, theirs, "table");
@@ -175,9 +189,9 @@ fn table_line(sheet: &[u8]) -> Line<'_> {
 }
 
 fn write_line(sheets: &[[u32; 40]]) -> Line<'_> {
-    let (mut out, mut ours, mut theirs) = ([NOISE; 12], [0xee; 86], [0xee; 86]);
+    let (mut out, mut ours, mut theirs) = ([NOISE; OUT], [0xee; 86], [0xee; 86]);
     for fields in sheets {
-        out = [NOISE; 12];
+        out = [NOISE; OUT];
         library::write(fields, &mut ours, &mut out);
         same("write", &out, &numbers::written(plain::write(fields, &mut theirs)));
         assert_eq!(ours, theirs, "write");
@@ -197,6 +211,7 @@ fn main() {
     let (two_left, four_left, closed_left) = ([two_byte(8)], [four_byte(8)], [closed_days(274)]);
     let (uneven, season) = (journals(|j| mixed(j, 0)), journals(|j| usual(j, 275)));
     let (uneven_left, season_left) = (journals(|j| mixed(j, 8)), journals(|j| usual(j, 274)));
+    let other_season = journals(|j| usual(32 + j, 275)); // opening's would be foretold from the lines before
     let empty = [Vec::new()];
     let mut g = Dice(1);
     let fields: Vec<[u32; 40]> = (0..32).map(|_| random::fields(&mut g, 275)).collect();
@@ -212,6 +227,7 @@ fn main() {
         rain_line("mixed lengths", &sheet, &uneven_left),
         rain_line("274 closed days", &sheet, &closed_left),
         rain_line("a usual season", &sheet, &season_left),
+        loss_line("8,192 bytes, a usual season", &sheet, &other_season),
         plan_line("few", &few, &blank[0][..64]),
         plan_line("many", &many, &blank[0][..64]),
         table_line(&sheet),

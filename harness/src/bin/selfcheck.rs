@@ -1,4 +1,4 @@
-//! Checks the plain implementation itself: against document 01's own numbers, a second reader and writer of sheets,
+//! Checks the plain implementation itself: against the documents' own numbers, a second reader and writer of sheets,
 //! slow rules, every choice of waterings in small seasons, the book, and a literal reading of what an opening finds. It
 //! takes some minutes; 10 percent of the rounds take seconds. Status 1 at a mismatch.
 //!
@@ -123,6 +123,122 @@ fn daggers() -> (u64, u64) {
     t.same(|| "printed".into(), printed(&s), "1 1 700 0 700 934\n1 2 800 0 800 1067\n".into());
     t.same(|| "printed, no sheet".into(), printed(&[]), "1 0\n".into());
     t.report("document 01's numbers")
+}
+
+// ------------------------------------------------------------------ lost yield
+
+/// The greatest number of at most 10,000 that times F is no more than 100 × Ky × (F − U); 0 where F is 0.
+fn slow_loss(ky: u32, need: u32, used: u32) -> u32 {
+    let most = 100 * ky as u64 * (need - used) as u64;
+    (1..=10_000).rev().find(|&v| need > 0 && v as u64 * need as u64 <= most).unwrap_or(0)
+}
+
+/// The loss call by the list of refusals, on what an opening finds.
+fn slow_losses(found: Opened, ky: u32) -> Lost {
+    match found {
+        Opened::Refused(number, value) => Lost { number, value, ..Lost::default() },
+        _ if ky == 0 || ky > 200 => Lost { number: 17, ..Lost::default() },
+        Opened::Torn(_, value) => Lost { number: 10, value, ..Lost::default() },
+        Opened::Clean(l) => {
+            let stages = l.stages.map(|s| slow_loss(ky, s.need, s.used));
+            Lost { number: 0, value: 0, season: slow_loss(ky, l.need, l.used), stages }
+        }
+    }
+}
+
+/// The stage sums add up to the season's, and no use is above its need.
+fn adds_up(l: &Ledger) -> bool {
+    let sums = l.stages.iter().fold((0, 0), |sums, s| (sums.0 + s.need, sums.1 + s.used));
+    sums == (l.need, l.used) && l.used <= l.need && l.stages.iter().all(|s| s.used <= s.need)
+}
+
+/// Need and use of each stage.
+fn stages(sums: [u32; 8]) -> [Stage; 4] {
+    std::array::from_fn(|i| Stage { need: sums[2 * i], used: sums[2 * i + 1] })
+}
+
+/// Rape by source document 002: the sheet of Tables 34, 35 and 40, and a journal of the season that Table 79 waters.
+const RAPE: [u32; 40] = [
+    1, 15, 20, 20, 30, 50, 70, 100, 95, 570, 540, 450, 370, 290, 230, 250, 340, 470, 560, 560, 530, 9_200, 8_600, 7_700,
+    2_500, 1_200, 400, 200, 300, 800, 2_900, 6_800, 8_700, 140, 20, 40, 50, 75, 0, 127,
+];
+const RAPE_JOURNAL: &str = "\
+    0301030201980c030303040305030602c00c0307030801ed0b0309030a030b030c01ed0b02a20c030d030e030f031002a20c031103120313\
+    01bf0b031403150316031701bf0b03180319031a031b031c029012031d01a00b031e031f0320032101a00b0322032303240325032602ac16\
+    032701ec0a03280329032a032b01ec0a032c032d032e032f01fa0a033003310332033301fa0a02881803340335033603370338033901ea0a\
+    028416033a033b033c033d01ea0a033e033f034003410342034301a70802f417034403450346034701a70803480349034a034b034c034d02\
+    ba18034e018405034f0350035103520184050353035403550356035702ac16035801c4020359035a035b035c01c402035d035e035f036003\
+    6102fc160362019b020363036403650366019b02036703680369036a036b036c01880202d617036d036e036f037001880203710372037303\
+    740375037601bc0103770378";
+
+/// Document 02's cases of T-03, the losses that source document 002 prints, and a whole season by a separate reading.
+fn losses() -> (u64, u64) {
+    let mut t = tally();
+    let (wet, dry, needless) = (small(127), with(small(127), &[(39, 1_500)]), with(small(127), &[(10, 0)]));
+    let twos = with(dry, &[(3, 2), (4, 2), (5, 2), (6, 2)]);
+    // So many days closed without water: F, U and the stages; then the losses by each Ky.
+    let cases: [([u32; 40], u32, [u32; 2], [u32; 8], &[(u32, [u32; 5])]); 8] = [
+        (wet, 0, [0, 0], [0; 8], &[(200, [0; 5])]),
+        (wet, 4, [1_500, 1_440], [200, 200, 500, 500, 500, 500, 300, 240], &[
+            (1, [4, 0, 0, 0, 20]), (100, [400, 0, 0, 0, 2_000]), (200, [800, 0, 0, 0, 4_000]),
+        ]),
+        (dry, 0, [0, 0], [0; 8], &[(200, [0; 5])]),
+        (dry, 1, [200, 100], [200, 100, 0, 0, 0, 0, 0, 0], &[(100, [5_000, 5_000, 0, 0, 0])]),
+        (dry, 4, [1_500, 430], [200, 100, 500, 200, 500, 100, 300, 30], &[
+            (100, [7_133, 5_000, 6_000, 8_000, 9_000]), (125, [8_916, 6_250, 7_500, 10_000, 10_000]),
+            (150, [10_000, 7_500, 9_000, 10_000, 10_000]),
+        ]),
+        (twos, 2, [400, 180], [400, 180, 0, 0, 0, 0, 0, 0], &[(100, [5_500, 5_500, 0, 0, 0])]),
+        (twos, 3, [750, 292], [400, 180, 350, 112, 0, 0, 0, 0], &[(100, [6_106, 5_500, 6_800, 0, 0])]),
+        (needless, 4, [0, 0], [0; 8], &[(200, [0; 5])]),
+    ];
+    for (f, days, season, by_stage, by_ky) in cases {
+        let l = opened_after(&f, &closes(days));
+        t.same(|| format!("{days} days of {f:?}"), ([l.need, l.used], l.stages), (season, stages(by_stage)));
+        for &(ky, [season, a, b, c, d]) in by_ky {
+            let want = Lost { number: 0, value: 0, season, stages: [a, b, c, d] };
+            t.same(|| format!("Ky {ky}, {days} days of {f:?}"), loss(&write_sheet(&f), &closes(days), ky), want);
+        }
+    }
+    let four = [3, 1, 3, 2, 3, 3, 3, 4];
+    let want = Ledger {
+        day: 5, depletion: 1_440, used: 1_440, place: 8, need: 1_500,
+        stages: stages([200, 200, 500, 500, 500, 500, 300, 240]), ..Ledger::default()
+    };
+    t.same(|| "four days without water".into(), opened_after(&wet, &four), want);
+    // Refusals.
+    let (torn, torn_later, damaged) = ([1, 0xac, 255, 255], [3, 1, 1, 0xac, 255], [255, 0xac, 255, 255]);
+    let (s, long) = (write_sheet(&wet), [0xff; 8_193]);
+    let refused: [(&[u8], &[u8], u32, u32, usize); 13] = [
+        (&s, &torn, 0, 17, 0), (&s, &torn, 1, 10, 0), (&s, &torn_later, 201, 17, 0), (&s, &torn_later, 200, 10, 2),
+        (&s, &damaged, 0, 9, 0), (&s, &[3, 1, 4], 0, 9, 2), (&s, &long, 201, 8, 0), (&s, &four, 201, 17, 0),
+        (&s, &four, 0, 17, 0), (&s, &[], u32::MAX, 17, 0), (&s[..40], &[4], 0, 1, 40), (&[], &long, 0, 1, 0),
+        (&[&s[..], &[9]].concat(), &torn, 201, 3, 41),
+    ];
+    for (sheet, area, ky, number, value) in refused {
+        let want = Lost { number, value, ..Lost::default() };
+        t.same(|| format!("Ky {ky} on {area:02x?} of {sheet:02x?}"), loss(sheet, area, ky), want);
+    }
+    // Example 11, Tables 77 to 79, document 02's half of the need, Equation 29; one floor; products past 32 bits.
+    let printed = [
+        (105, 82_000, 73_800, 1_050), (110, 16_000, 11_200, 3_300), (105, 70_180, 70_180, 0), (105, 63_630, 63_630, 0),
+        (105, 48_570, 48_570, 0), (100, 20_000, 10_000, 5_000), (100, 82_000, 73_800, 1_000), (1, 1_500, 1_440, 4),
+        (99, 825_000, 0, 9_900), (200, 825_000, 412_500, 10_000), (200, 825_000, 412_501, 9_999),
+    ];
+    for (ky, need, used, want) in printed {
+        t.same(|| format!("Ky {ky}, {used} of {need}"), [lost(ky, need, used), slow_loss(ky, need, used)], [want; 2]);
+    }
+    let rape = write_sheet(&RAPE);
+    let area: Vec<u8> = (0..348).map(|i| u8::from_str_radix(&RAPE_JOURNAL[2 * i..][..2], 16).unwrap()).collect();
+    let want = Ledger {
+        day: 121, depletion: 2_874, waiting_rain: 0, waiting_irrigation: 0, rain: 24_112, irrigation: 30_840,
+        used: 48_524, percolation: 9_302, place: 348, need: 48_565,
+        stages: stages([7_917, 7_917, 9_262, 9_262, 13_950, 13_950, 17_436, 17_395]),
+    };
+    t.same(|| "rape".into(), open(&rape, &area), Opened::Clean(want));
+    let want = Lost { number: 0, value: 0, season: 8, stages: [0, 0, 0, 24] };
+    t.same(|| "rape's loss".into(), loss(&rape, &area, 105), want);
+    t.report("lost yield, document 02's numbers")
 }
 
 // ------------------------------------------------------------------ random sheets
@@ -265,10 +381,10 @@ fn writer(g: &mut Dice, percent: u32) -> (u64, u64) {
     t.report("the writer, second writer and reader")
 }
 
-/// Tables and plans of long seasons by the slow rules.
+/// Tables, plans, stage sums and losses of long seasons by the slow rules.
 fn long_seasons(g: &mut Dice, percent: u32) -> (u64, u64) {
     let mut t = tally();
-    let mut refused = 0;
+    let (mut refused, mut stressed) = (0, 0);
     for _ in 0..30 * percent {
         let f = random::fields(g, DAYS as u32);
         let sheet = write_sheet(&f);
@@ -306,6 +422,19 @@ fn long_seasons(g: &mut Dice, percent: u32) -> (u64, u64) {
         let ended = l.day > s.days;
         t.same(|| format!("spoilt plan {f:?}"), refusal(&spoilt, 0), (if ended { 9 } else { 10 }, l.place, 0, true));
         t.same(|| "long area".into(), refusal(&[0; 8_193], 0), (8, 0, 0, true));
+        // A close counts in the stage of the day that it closes.
+        let mut needs = [0; 4];
+        for day in 1..l.day {
+            let ends = [f[2], f[2] + f[3], f[2] + f[3] + f[4]];
+            needs[ends.iter().filter(|&&end| end < day).count()] += book::need(&s, day);
+        }
+        t.same(|| format!("needs {f:?}"), (l.stages.map(|s| s.need), l.need), (needs, needs.iter().sum()));
+        t.same(|| format!("sums {f:?}"), adds_up(&l), true);
+        let ky = random::ky(g);
+        let found = if ended { Opened::Refused(9, l.place) } else { Opened::Torn(l, l.place) };
+        t.same(|| format!("spoilt loss {ky} {f:?}"), loss(&sheet, &spoilt, ky), slow_losses(found, ky));
+        t.same(|| format!("loss {ky} {f:?}"), loss(&sheet, &area, ky), slow_losses(Opened::Clean(l), ky));
+        stressed += (l.used < l.need) as u32;
         if ended {
             t.same(|| format!("closed plan {f:?}"), refusal(&area, 0), (11, 0, 0, true));
             continue;
@@ -323,7 +452,7 @@ fn long_seasons(g: &mut Dice, percent: u32) -> (u64, u64) {
         }
         t.same(|| format!("depths {f:?}"), got, want);
     }
-    println!("long plans refused: {refused}");
+    println!("long plans refused: {refused}; journals with stress: {stressed}");
     t.report("long seasons, slow rules")
 }
 
@@ -517,6 +646,7 @@ fn histories(g: &mut Dice, percent: u32) -> (u64, u64) {
                 _ if fill && !g.one_in(4) => Call::Rain(g.of(16_384, 17_000)),
                 _ => Call::Close,
             };
+            let ky = random::ky(g);
             let answer = asked(&sheet, &area, call);
             let what = || format!("{call:?} on {area:02x?} of {f:?}");
             t.same(what, answer.clone(), book.answer(call));
@@ -538,6 +668,8 @@ fn histories(g: &mut Dice, percent: u32) -> (u64, u64) {
                     for next in [Call::Mend, Call::Close, Call::Rain(amount)] {
                         t.same(|| format!("{next:?} after {done} of {call:?}: {a:02x?}"), asked(&sheet, &a, next), b.answer(next));
                     }
+                    let what = || format!("loss {ky} after {done} of {call:?}: {a:02x?}");
+                    t.same(what, loss(&sheet, &a, ky), b.loss(ky));
                 }
             }
             let done = if g.one_in(if calm { 12 } else { 3 }) { g.of(0, all as u32) as usize } else { all };
@@ -550,6 +682,10 @@ fn histories(g: &mut Dice, percent: u32) -> (u64, u64) {
         longest = longest.max(l.day);
         fullest = fullest.max(l.place);
         t.same(|| "last opening".into(), open(&sheet, &area), book.open());
+        t.same(|| format!("sums {l:?}"), adds_up(&l), true);
+        for ky in random::KYS {
+            t.same(|| format!("last loss {ky}: {area:02x?} of {f:?}"), loss(&sheet, &area, ky), book.loss(ky));
+        }
     }
     println!("{histories} histories, {calls} calls, {cuts} cuts opened, {torn_openings} of them torn, {cut_mends} within a mend; latest open day {longest}, longest journal {fullest}");
     println!("calls by answer, 0 accepted: {:?}", seen);
@@ -613,6 +749,9 @@ fn any_bytes(g: &mut Dice, percent: u32) -> (u64, u64) {
             Opened::Refused(9, l.place)
         };
         t.same(|| format!("any bytes {area:02x?} of {f:?}"), open(&sheet, &area), want);
+        t.same(|| format!("sums {l:?}"), adds_up(&l), true);
+        let ky = random::ky(g);
+        t.same(|| format!("loss {ky} of {area:02x?} of {f:?}"), loss(&sheet, &area, ky), slow_losses(want, ky));
         let mended = mend(&sheet, &area);
         let want_places: Vec<usize> = if matches!(want, Opened::Torn(..)) {
             (place..room).rev().filter(|&p| area[p] != 0xff).collect()
@@ -647,8 +786,8 @@ fn main() {
     let percent = std::env::args().nth(2).map_or(100, |s| s.parse().unwrap());
     println!("seed {seed}, {percent} percent");
     let mut g = Dice(seed);
-    let parts = [daggers(), sheet_bytes(&mut g, percent), writer(&mut g, percent), long_seasons(&mut g, percent),
-        brute(&mut g, percent), histories(&mut g, percent), any_bytes(&mut g, percent)];
+    let parts = [daggers(), losses(), sheet_bytes(&mut g, percent), writer(&mut g, percent),
+        long_seasons(&mut g, percent), brute(&mut g, percent), histories(&mut g, percent), any_bytes(&mut g, percent)];
     let (compared, wrong) = parts.iter().fold((0, 0), |a, p| (a.0 + p.0, a.1 + p.1));
     println!("in all: {compared} compared, {wrong} mismatches");
     std::process::exit((wrong > 0) as i32);
