@@ -13,11 +13,11 @@ use Rattle.season.specs.declared.SeasonDay.{SeasonDay}
 use Rattle.season.specs.Calendar.{monthDays, dateIs}
 use Rattle.season.specs.Sheet.{Ranged, Valid, DayOf, seasonDays}
 use Rattle.season.specs.Carried.{reciprocal, scaled, risen, raised, Raising, slopeOf, needsAfter, onDate, dayOf, OnDay}
-use Rattle.season.specs.Day.{etoIn, dateOf, cropNeed}
+use Rattle.season.specs.Day.{etoIn, dateOf, stageOf, cropNeed}
 use Rattle.season.proofs.Calendar.{next-in, days-high}
 use Rattle.season.proofs.Raised.{risen-none, risen-more, risen-weighed, raised-more, raised-level}
 use Rattle.season.proofs.Whole.{small-back}
-use Rattle.season.proofs.Slopes.{slope-next, left-within}
+use Rattle.season.proofs.Slopes.{slope-next, stage-next, left-within}
 use Rattle.season.proofs.Laws.{product}
 use Rattle.season.proofs.Bounds.{date-proper, need-le, rise-weighed}
 use Rattle.season.proofs.Days.{date-next, on-day, on-number, top-small, need-is, need-fits}
@@ -161,6 +161,11 @@ module _ {s : Season} {t : SeasonDay} (v : Valid s) (o : OnDay s t) (k : ℕ) (h
       on-day s _ (t .number + k) (record { from = omega (arith, o .of .from); to = omega (arith, left-here, d) }) refl
 
 module _ {s : Season} {t : SeasonDay} (v : Valid s) (o : OnDay s t) where
+  -- And the next one is of the same stage.
+  pub along-stage : 0 < t .left → stageOf s (t .number + 1) ≡ stageOf s (t .number)
+  unfolding dayOf
+  along-stage h = stage-next s (t .number) (o .of .to) (omega (arith, ap (λ (d : SeasonDay). d .left) (o .is)))
+
   pub left-few : t .left ≤ 30
   unfolding dayOf
   left-few =

@@ -83,6 +83,28 @@ module _ (s : Season) (i : ℕ) where
   unfolding kcOf inStage
   kc-slope d = rw (slope-in (d .to)) (sym (of-choice (λ k. ratio (k .top) (k .bottom)) constant sloping s i))
 
+-- The stage goes on to the next day where a day of it is left, and past the season's end.
+module _ (s : Season) (i : ℕ) where
+  pub stage-next : i ≤ seasonDays s → 0 < slopeOf s i .left → stageOf s (i + 1) ≡ stageOf s i
+  stage-next to more = go (stageOf s i) refl
+    where
+      go : (g : Stage) → stageOf s i ≡ g → stageOf s (i + 1) ≡ stageOf s i
+      go Initial e = let m = rw (slope-of-stage s i Initial to e) at more in stage-is s (i + 1) Initial (omega arith) ∙ sym e
+      go Development e =
+          let m = rw (slope-of-stage s i Development to e) at more in
+          let d = days-of s i Development e in
+          stage-is s (i + 1) Development (omega arith, omega arith) ∙ sym e
+      go Middle e =
+          let m = rw (slope-of-stage s i Middle to e) at more in
+          let d = days-of s i Middle e in
+          stage-is s (i + 1) Middle (omega arith, omega arith) ∙ sym e
+      go Late e =
+          let d = days-of s i Late e in
+          stage-is s (i + 1) Late (omega arith) ∙ sym e
+
+  pub stage-past : Ranged s → i ≡ seasonDays s → stageOf s (i + 1) ≡ stageOf s i
+  stage-past r last = stage-is s (i + 1) Late (omega (arith, r .late .low≤)) ∙ sym (stage-is s i Late (omega (arith, r .late .low≤)))
+
 -- Day i is day k of a stage of L days whose slopes are f. Where it is not the last of them, the next day is day k + 1.
 record Stays (s : Season) (i l k : ℕ) (f : ℕ → Slope) : Type 0 where
   pub here : slopeOf s i ≡ f k
