@@ -11,6 +11,7 @@ pub mod Reading
 pub mod Beginnings
 pub mod Trims
 pub mod Sums
+pub mod Carrying
 pub mod Walking
 pub mod Entering
 pub mod Standing
