@@ -5,7 +5,6 @@ pub mod Tails
 pub mod Runs
 pub mod Counting
 pub mod Writing
-pub mod Crash
 pub mod Literal
 pub mod Reading
 pub mod Beginnings
@@ -16,6 +15,7 @@ pub mod Walking
 pub mod Entering
 pub mod Standing
 pub mod Answers
+pub mod Crash
 pub mod Matching
 pub mod Numbering
 pub mod Claims

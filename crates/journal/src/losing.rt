@@ -10,7 +10,7 @@ use crate::Losses;
 use crate::Lost;
 use crate::Opening;
 use crate::StageSums;
-use crate::calls::open;
+use crate::calls::find;
 use season::Season;
 use verdict::Verdict;
 
@@ -72,7 +72,7 @@ pub fn loss(s: Season, area: &[u8], ky: u32) -> Lost
     requires { ⌜ AcceptedSeason s ⌝ }
     ensures { λ r. ⌜ r ≡ lost s (now (area .entry)) ky ⌝ }
 {
-    match open(s, area) {
+    match find(s, area) {
         Opening::Clean(l) => lost_by(ky, l, false, 0),
         Opening::Torn(l, place) => lost_by(ky, l, true, place),
         Opening::Refused(number, place) => Lost::Refused(number, place),

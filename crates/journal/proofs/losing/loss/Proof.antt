@@ -6,8 +6,8 @@ use Rattle.journal.proofs.Answers.{clean-within, torn-within}
 use Rattle.journal.proofs.losing.loss.Statement.{statement}
 use Rattle.journal.proofs.losing.loss.Tie as tie
 
-open-requires : tie.Need-open-requires
-open-requires c κs = search needs
+find-requires : tie.Need-find-requires
+find-requires c κs = search needs
 
 enum-known-l : tie.Need-enum-known-l
 enum-known-l c = search needs
@@ -15,9 +15,9 @@ enum-known-l c = search needs
 lost-by-requires : tie.Need-lost-by-requires
 lost-by-requires c κs =
     let at-l = c .before in
-    let at-open = at-l .before .before in
-    let start = at-open .before .before in
-    clean-within (start .args .s) (start .args .area .now) (start .pre) (at-open .«open» .result) _ (at-open .«open» .ensures) (at-l .l .given .1) .uses
+    let at-find = at-l .before .before in
+    let start = at-find .before .before in
+    clean-within (start .args .s) (start .args .area .now) (start .pre) (at-find .find .result) _ (at-find .find .ensures) (at-l .l .given .1) .uses
 
 enum-known-l-2 : tie.Need-enum-known-l-2
 enum-known-l-2 c = search needs
@@ -25,9 +25,9 @@ enum-known-l-2 c = search needs
 lost-by-requires-2 : tie.Need-lost-by-requires-2
 lost-by-requires-2 c κs =
     let at-l2 = c .before in
-    let at-open = at-l2 .before .before in
-    let start = at-open .before .before in
-    torn-within (start .args .s) (start .args .area .now) (start .pre) (at-open .«open» .result) _ _ (at-open .«open» .ensures) (at-l2 .l2 .given .1) .uses
+    let at-find = at-l2 .before .before in
+    let start = at-find .before .before in
+    torn-within (start .args .s) (start .args .area .now) (start .pre) (at-find .find .result) _ _ (at-find .find .ensures) (at-l2 .l2 .given .1) .uses
 
 enum-known-number : tie.Need-enum-known-number
 enum-known-number c = search needs
@@ -36,31 +36,31 @@ returns : tie.Need-returns
 unfolding lost lostOn
 returns c =
     let at-l = c .before .before in
-    let at-open = at-l .before .before in
-    let start = at-open .before .before in
-    c .lost-by .ensures ∙ sym (ap (lostOn (start .args .ky)) (sym (at-open .«open» .ensures) ∙ at-l .l .given .1))
+    let at-find = at-l .before .before in
+    let start = at-find .before .before in
+    c .lost-by .ensures ∙ sym (ap (lostOn (start .args .ky)) (sym (at-find .find .ensures) ∙ at-l .l .given .1))
 
 returns-2 : tie.Need-returns-2
 unfolding lost lostOn
 returns-2 c =
     let at-l2 = c .before .before in
-    let at-open = at-l2 .before .before in
-    let start = at-open .before .before in
-    c .lost-by2 .ensures ∙ sym (ap (lostOn (start .args .ky)) (sym (at-open .«open» .ensures) ∙ at-l2 .l2 .given .1))
+    let at-find = at-l2 .before .before in
+    let start = at-find .before .before in
+    c .lost-by2 .ensures ∙ sym (ap (lostOn (start .args .ky)) (sym (at-find .find .ensures) ∙ at-l2 .l2 .given .1))
 
 returns-3 : tie.Need-returns-3
 unfolding lost lostOn
 returns-3 c =
     let at-number = c .before in
-    let at-open = at-number .before .before in
-    let start = at-open .before .before in
-    sym (ap (lostOn (start .args .ky)) (sym (at-open .«open» .ensures) ∙ at-number .number .given .1))
+    let at-find = at-number .before .before in
+    let start = at-find .before .before in
+    sym (ap (lostOn (start .args .ky)) (sym (at-find .find .ensures) ∙ at-number .number .given .1))
 
 pub loss-spec : {M : Type 1} → statement M
 loss-spec =
     tie.close
     (tie.spec
-    open-requires
+    find-requires
     enum-known-l
     lost-by-requires
     enum-known-l-2
