@@ -1,9 +1,10 @@
 -- The proofs of `specs/Claims.antt`, in its order.
-use mathlib.Core.Path.{_≡_, refl, sym, _∙_, subst⁻¹}
-use mathlib.Core.List.{List, map}
-use Prim.Native.Nat.{ℕ}
+use mathlib.Core.Path.{_≡_, refl, sym, ap, _∙_, subst⁻¹}
+use mathlib.Core.List.{List, [], map}
+use Prim.Native.Nat.{ℕ, _≤_}
 use native.Mathlib.Omega.{arith}
-use lib.ListN.{length}
+use lib.ListN.{length, drop}
+use Rattle.season.specs.declared.Season.{Season}
 use Rattle.season.specs.Rules.{ramp, rampZ}
 use Rattle.season.specs.Calendar.{nextDay, daysOn}
 use Rattle.season.specs.Day.{dateOf, kcOf, cropNeed, rainOn}
@@ -20,17 +21,19 @@ use Rattle.journal.specs.declared.Entry.{Entry}
 use Rattle.journal.specs.declared.Opening.{Opening}
 use Rattle.journal.specs.declared.Opening.the-variants as found
 use Rattle.journal.specs.declared.Recorded.{Recorded}
-use Rattle.journal.specs.declared.Mended.{Mended}
+use Rattle.journal.specs.declared.Opened.{Opened}
+use Rattle.journal.specs.declared.Ledger.{Ledger}
 use Rattle.journal.specs.Entries.{tagOf, sourceTag, numberOf, start, enter, refusal, accepts, passes}
 use Rattle.journal.specs.Entries as journal
-use Rattle.journal.specs.Opening as opened
+use Rattle.journal.specs.Opening as openings
 use Rattle.journal.specs.Opening.{value, least, starts, entryOf, only, entryAt, replay, replayed, isBlank, trim, tornAt, behind, opening}
-use Rattle.journal.specs.Calls.{noStores, recordedWith, recorded, wipePlaces, notMended, mendedOn, mended, wipesIn, mendedNumbers}
+use Rattle.journal.specs.Calls.{noStores, recordedWith, recorded, wipePlaces, openedWith, openedOn, opened, wipe, wipesIn, openedNumbers}
 use Rattle.journal.specs.declared.Lost.{Lost}
 use Rattle.journal.specs.declared.Lost.the-variants as losing
 use Rattle.journal.specs.Loss.{lost, lossNumbers}
 use Rattle.journal.specs.Specified.{Opens}
-use Rattle.journal.specs.Claims.{OpeningOccurs, RecordedOccurs, MendedOccurs}
+use Rattle.journal.specs.Claims.{RecordedOccurs, OpenedOccurs}
+use Rattle.journal.proofs.Answers.{opened-opening, opened-clean, opened-refused}
 use Rattle.journal.proofs.Claims as journals
 use Rattle.planner.specs.declared.Planned.{Planned}
 use Rattle.planner.specs.declared.Planned.the-variants as planned
@@ -41,19 +44,19 @@ use Rattle.decades.specs.declared.Tabled.{Tabled}
 use Rattle.decades.specs.declared.Tabled.the-variants as table
 use Rattle.decades.specs.Table.{tabled}
 use Rattle.planner.proofs.Claims as plans
-use Rattle.controller.specs.Calls.{plannedOn, sheetOpened, sheetRecorded, sheetMended, sheetPlanned, sheetTabled, onSheet}
-use Rattle.controller.specs.Refusals.{mendLines, openLines, lossLines, entryLines, planLines, tableLines}
+use Rattle.controller.specs.Calls.{plannedOn, sheetOpened, sheetRecorded, sheetPlanned, sheetTabled, onSheet}
+use Rattle.controller.specs.Refusals.{openLines, lossLines, entryLines, planLines, tableLines}
 use Rattle.controller.specs.Cases.{cases}
 use Rattle.controller.specs.Claims.{Claims}
 use Rattle.controller.proofs.Sheets.{on-sheet}
 use Rattle.controller.proofs.Demands.{opens, plan-right, demand-3}
-use Rattle.controller.proofs.Refusing.{sheet-verdict, numbers-refused, planVerdict, tableVerdict, open-verdict, entry-verdict, mend-verdict, loss-verdict, plan-verdict, table-verdict, entry-refused, mend-refused, plan-refused-keeps, table-refused-keeps}
+use Rattle.controller.proofs.Refusing.{sheet-verdict, numbers-refused, planVerdict, tableVerdict, open-verdict, entry-verdict, loss-verdict, plan-verdict, table-verdict, entry-refused, plan-refused-keeps, table-refused-keeps}
 
 -- The calls' two ways: a refused sheet, and an accepted season.
 module _ (sheet : List ℕ) where
   module _ (area : List ℕ) where
-    abbrev noOpening : ℕ → ℕ → Opening
-    noOpening = found.Refused
+    abbrev noOpening : ℕ → ℕ → Opened
+    noOpening number value = openedWith (found.Refused number value) []
 
     abbrev noEntry : ℕ → ℕ → Recorded
     noEntry number value = recordedWith (verdict.Refused number value) noStores
@@ -65,17 +68,34 @@ module _ (sheet : List ℕ) where
         (λ m w v h. let i : m ≡ number = cc in let j : w ≡ value = cc in rw (i, j))
         (λ s v q o h. entry-refused s area e number value h)
 
-    mend-no-stores : (number value : ℕ) → sheetMended sheet area .verdict ≡ verdict.Refused number value → sheetMended sheet area ≡ notMended number value
-    mend-no-stores number value =
-        on-sheet notMended (λ s. mended s area) sheet (λ (r : Mended). r .verdict ≡ verdict.Refused number value → r ≡ notMended number value)
-        (λ m w v h. let i : m ≡ number = cc in let j : w ≡ value = cc in rw (i, j))
-        (λ s v q o h. mend-refused s area number value h)
+    -- An opening that has no stores on a season's journal has none on the sheet.
+    no-stores : (p : Opening) → ((s : Season) → p ≡ opening s area → opened s area ≡ openedWith p []) → sheetOpened sheet area .opening ≡ p
+        → sheetOpened sheet area ≡ openedWith p []
+    no-stores p on-season =
+        on-sheet noOpening (λ s. opened s area) sheet (λ (r : Opened). r .opening ≡ p → r ≡ openedWith p [])
+        (λ m w v h. ap (λ (o : Opening). openedWith o []) h)
+        (λ s v q o h. on-season s (sym h ∙ opened-opening s area))
 
-    opening-occurs : OpeningOccurs (sheetOpened sheet area)
-    opening-occurs =
-        on-sheet noOpening (λ s. opening s area) sheet OpeningOccurs
-        (λ number value v. let r = sheets.claims .refused-number sheet number value v in (r .0, omega arith))
-        (λ s v q o. journals.claims .opening-occurs s area)
+    open-no-stores : (number value : ℕ) → sheetOpened sheet area .opening ≡ found.Refused number value → sheetOpened sheet area ≡ noOpening number value
+    open-no-stores number value = no-stores (found.Refused number value) (λ s e. opened-refused s area e refl)
+
+    clean-no-stores : (l : Ledger) → sheetOpened sheet area .opening ≡ found.Clean l → sheetOpened sheet area ≡ openedWith (found.Clean l) []
+    clean-no-stores l = no-stores (found.Clean l) (λ s e. opened-clean s area e refl)
+
+    torn-stores : (l : Ledger) (place : ℕ) → sheetOpened sheet area .opening ≡ found.Torn l place
+        → (wipesIn (sheetOpened sheet area) ≡ map wipe (wipePlaces place (drop place area))) × (1 ≤ sheetOpened sheet area .count)
+    torn-stores l place =
+        on-sheet noOpening (λ s. opened s area) sheet
+        (λ (r : Opened). r .opening ≡ found.Torn l place → (wipesIn r ≡ map wipe (wipePlaces place (drop place area))) × (1 ≤ r .count))
+        (λ m w v h. absurd (let z : _≡_ {A = ℕ} 0 1 = cc in omega arith))
+        (λ s v q o h. journals.claims .torn-stores s o area l place (sym (opened-opening s area) ∙ h))
+
+    opened-occurs : OpenedOccurs (sheetOpened sheet area)
+    opened-occurs =
+        on-sheet noOpening (λ s. opened s area) sheet OpenedOccurs
+        (λ number value v. let r = sheets.claims .refused-number sheet number value v in
+        record { found = (r .0, omega arith); placed = record { size = refl; few = omega arith; rest = refl }; none = refl })
+        (λ s v q o. journals.claims .opened-occurs s o area)
 
     recorded-occurs : (e : Entry) → RecordedOccurs (sheetRecorded sheet area e)
     unfolding recordedWith
@@ -83,12 +103,6 @@ module _ (sheet : List ℕ) where
         on-sheet noEntry (λ s. recorded s area e) sheet RecordedOccurs
         (λ number value v. (sheets.claims .refused-number sheet number value v .0, refl))
         (λ s v q o. journals.claims .recorded-occurs s o area e)
-
-    mended-occurs : MendedOccurs (sheetMended sheet area)
-    mended-occurs =
-        on-sheet notMended (λ s. mended s area) sheet MendedOccurs
-        (λ number value v. (record { size = refl; few = omega arith; rest = refl }, (sheets.claims .refused-number sheet number value v .0, refl)))
-        (λ s v q o. journals.claims .mended-occurs s o area)
 
     plan-unaltered : (out : List ℕ) (number value : ℕ) → planVerdict (sheetPlanned sheet area out) ≡ verdict.Refused number value → sheetPlanned sheet area out .1 ≡ out
     plan-unaltered out number value =
@@ -103,7 +117,7 @@ module _ (sheet : List ℕ) where
       (λ s v q o h. table-refused-keeps s out number value h)
 
 cases-hold : map (λ (c : List ℕ × List ℕ). c .0) cases ≡ map (λ (c : List ℕ × List ℕ). c .1) cases
-unfolding cases onSheet plannedOn sheetOf fieldsVerdict lowestOutside outside numbersRead ended numbers before written decode decodeFrom below encode overGroups overIn groupCount orRefused opening replayed replay behind isBlank trim tornAt entryAt entryOf only value least starts start enter refusal accepts passes tagOf sourceTag numberOf journal.outside mended mendedOn wipePlaces mendedNumbers wipesIn answer answerTo byWalks onWalk pad walk ending watered irrigated sum dateOf kcOf cropNeed rainOn nextDay daysOn ramp rampZ
+unfolding cases onSheet plannedOn sheetOf fieldsVerdict lowestOutside outside numbersRead ended numbers before written decode decodeFrom below encode overGroups overIn groupCount orRefused opening replayed replay behind isBlank trim tornAt entryAt entryOf only value least starts start enter refusal accepts passes tagOf sourceTag numberOf journal.outside opened openedOn wipePlaces openedNumbers wipesIn answer answerTo byWalks onWalk pad walk ending watered irrigated sum dateOf kcOf cropNeed rainOn nextDay daysOn ramp rampZ
 cases-hold = refl
 
 pub claims : Claims
@@ -111,11 +125,9 @@ unfolding recordedWith
 claims = record {
   demand-3 = demand-3;
   open-refuses = λ sheet area.
-      sheet-verdict (λ (o : Opening). verdictOf (opened.numbersOf o)) found.Refused (λ s. opening s area) sheet (openLines area) numbers-refused (λ s o. open-verdict s area);
+      sheet-verdict (λ (r : Opened). verdictOf (openings.numbersOf (r .opening))) (λ number value. openedWith (found.Refused number value) []) (λ s. opened s area) sheet (openLines area) numbers-refused (λ s o. open-verdict s area);
   entry-refuses = λ sheet area e.
       sheet-verdict (λ (r : Recorded). r .verdict) (λ number value. recordedWith (verdict.Refused number value) noStores) (λ s. recorded s area e) sheet (entryLines area e) (λ number value h. refl) (λ s o. entry-verdict s area e);
-  mend-refuses = λ sheet area.
-      sheet-verdict (λ (r : Mended). r .verdict) notMended (λ s. mended s area) sheet (mendLines area) (λ number value h. refl) (λ s o. mend-verdict s area);
   loss-refuses = λ sheet area ky.
       sheet-verdict (λ (r : Lost). verdictOf (lossNumbers r)) losing.Refused (λ s. lost s area ky) sheet (lossLines area ky) numbers-refused (λ s o. loss-verdict s area ky);
   plan-refuses = λ sheet area out.
@@ -123,11 +135,13 @@ claims = record {
   table-refuses = λ sheet out.
       sheet-verdict tableVerdict (λ number value. (table.Refused number value, out)) (λ s. tabled s out) sheet (tableLines (length out)) numbers-refused (λ s o. table-verdict s out);
   write-refuses = sheets.claims .write-refuses;
+  open-no-stores = open-no-stores;
   entry-no-stores = entry-no-stores;
-  mend-no-stores = mend-no-stores;
   plan-unaltered = plan-unaltered;
   table-unaltered = table-unaltered;
   write-unaltered = sheets.claims .write-unaltered;
+  clean-no-stores = clean-no-stores;
+  torn-stores = torn-stores;
   plan-right = λ sheet area out l v o day room. plan-right sheet v area out l (sym (opens sheet v area) ∙ o) day room;
   planning = plans.claims;
   sheet-as-written = sheets.claims .accepted-as-written;
@@ -136,8 +150,7 @@ claims = record {
   read-write = sheets.claims .read-write;
   entries = journals.claims;
   opening-says = λ sheet area v h. subst⁻¹ (Opens (sheetOf sheet .season) area) (opens sheet v area) (journals.claims .opening-says (sheetOf sheet .season) area h);
-  opening-occurs = opening-occurs;
+  opened-occurs = opened-occurs;
   recorded-occurs = recorded-occurs;
-  mended-occurs = mended-occurs;
   cases-hold = cases-hold;
 }

@@ -14,16 +14,18 @@ use Rattle.verdict.specs.Refusals.{orRefused}
 use Rattle.sheet.specs.Sheets.{sheetOf}
 use Rattle.sheet.proofs.Accepted.{accepted-season}
 use Rattle.journal.specs.declared.Ledger.{Ledger}
+use Rattle.journal.specs.declared.Opened.{Opened}
 use Rattle.journal.specs.declared.Opening.the-variants as found
 use Rattle.journal.specs.declared.Lost.the-variants.{Parts}
 use Rattle.journal.specs.declared.Lost.the-variants as losing
 use Rattle.journal.specs.Entries.{waiting}
 use Rattle.journal.specs.Loss.{lossesOf, lostOn, lost}
 use Rattle.journal.specs.Opening.{opening}
-use Rattle.journal.specs.Calls.{noStores, recordedWith, recorded, notMended, mended}
-use Rattle.journal.specs.Book.{Step, emptyBook, ledgerOf, bookAfter, bookOpening, foundIn}
+use Rattle.journal.specs.Calls.{noStores, recordedWith, recorded, openedWith, opened}
+use Rattle.journal.specs.Book.{Step, emptyBook, ledgerOf, bookAfter, foundIn}
 use Rattle.journal.specs.History.{Device, journal, blankArea, areaAfter}
 use Rattle.journal.specs.Claims.{Kept}
+use Rattle.journal.proofs.Answers.{opened-opening}
 use Rattle.journal.proofs.Claims as journals
 use Rattle.planner.specs.declared.Planned.{Planned}
 use Rattle.planner.specs.declared.Planned.the-variants.{Made, Refused}
@@ -98,15 +100,17 @@ module _ (sheet : List ℕ) (v : sheetOf sheet .verdict ≡ verdict.Accepted) wh
   s = sheetOf sheet .season
 
   -- Its calls are the journal's.
+  same-opened : (area : List ℕ) → sheetOpened sheet area ≡ opened s area
+  same-opened area = sheet-accepted (λ number value. openedWith (found.Refused number value) []) (λ t. opened t area) sheet (sheetOf sheet) refl v
+
   same-calls : calls sheet ≡ journal s
   same-calls = λ i. record {
     records = λ area e. sheet-accepted (λ number value. recordedWith (verdict.Refused number value) noStores) (λ t. recorded t area e) sheet (sheetOf sheet) refl v i;
-    mending = λ area. sheet-accepted notMended (λ t. mended t area) sheet (sheetOf sheet) refl v i;
-    opens = λ area. sheet-accepted found.Refused (λ t. opening t area) sheet (sheetOf sheet) refl v i;
+    opened = λ area. same-opened area i;
   }
 
-  pub opens : (area : List ℕ) → sheetOpened sheet area ≡ opening s area
-  opens area = sheet-accepted found.Refused (λ t. opening t area) sheet (sheetOf sheet) refl v
+  pub opens : (area : List ℕ) → sheetOpened sheet area .opening ≡ opening s area
+  opens area = ap (λ (r : Opened). r .opening) (same-opened area) ∙ opened-opening s area
 
   -- On a clean journal with an open day the plan is the planner's, from the ledger.
   plans-clean : (area out : List ℕ) (l : Ledger) → opening s area ≡ found.Clean l → l .day ≤ seasonDays s
@@ -128,14 +132,14 @@ module _ (sheet : List ℕ) (v : sheetOf sheet .verdict ≡ verdict.Accepted) wh
       ∙ rw (o, lostOn, le-ltb ky 1 low, le-ltb 200 ky high)
 
   pub demand-3 : (size : ℕ) → size ≤ 8192 → (steps : List Step) (out : List ℕ) → Demand3 sheet size steps out
-  unfolding bookOpening foundIn
+  unfolding foundIn
   demand-3 size h steps out =
       let k = bookAfter s size emptyBook steps in
       let kept : Kept (calls sheet) s size steps
       = subst⁻¹ (λ (d : Device). Kept d s size steps) same-calls (journals.claims .history-kept s (accepted-season sheet v) size h steps) in
       let area = areaAfter (calls sheet) (blankArea size) steps in
       let clean : k .loose ≡ [] → opening s area ≡ found.Clean (ledgerOf s k)
-      = λ none. sym (opens area) ∙ kept .same-opening ∙ ap (foundIn (ledgerOf s k)) none in
+      = λ none. sym (opens area) ∙ kept .opens-as ∙ ap (foundIn (ledgerOf s k)) none in
       record {
         kept = kept;
         plans = λ none day room. plan-right area out (ledgerOf s k) (clean none) day room;

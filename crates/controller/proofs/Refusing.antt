@@ -26,14 +26,15 @@ use Rattle.journal.specs.declared.Opening.{Opening}
 use Rattle.journal.specs.declared.Opening.the-variants as found
 use Rattle.journal.specs.declared.Stores.{Stores}
 use Rattle.journal.specs.Entries.{waiting, start, refusals, refusal}
-use Rattle.journal.specs.Opening as opened
+use Rattle.journal.specs.Opening as openings
 use Rattle.journal.specs.Opening.{opening}
 use Rattle.journal.specs.Specified.{bytesAll, Says}
 use Rattle.journal.specs.Specified as said
-use Rattle.journal.specs.Calls.{noStores, recordedWith, storesOf, recordedOn, recorded, notMended, mendedOn, mended}
+use Rattle.journal.specs.Calls.{noStores, recordedWith, storesOf, recordedOn, recorded, opened}
 use Rattle.journal.specs.declared.Losses.{Losses}
 use Rattle.journal.specs.Loss as yield
 use Rattle.journal.specs.Loss.{lossesOf, lossRefusals, lostUnless, lostOn, lossNumbers}
+use Rattle.journal.proofs.Answers.{opened-opening}
 use Rattle.journal.proofs.Claims as journals
 use Rattle.planner.specs.declared.Planned.{Planned}
 use Rattle.planner.specs.declared.Planned.the-variants as planned
@@ -48,7 +49,7 @@ use Rattle.decades.specs.declared.Tabled.the-variants as table
 use Rattle.decades.specs.Table as definition
 use Rattle.decades.proofs.Claims as tables
 use Rattle.controller.specs.Calls.{onSheet, plannedOn}
-use Rattle.controller.specs.Refusals.{Line, onLines, damaged, tornLine, ledgerIn, mendLines, openLines, lossLines, entryLines, lost, planOf, roomLines, planLines, tableLines}
+use Rattle.controller.specs.Refusals.{Line, onLines, damaged, tornLine, ledgerIn, openLines, lossLines, entryLines, lost, planOf, roomLines, planLines, tableLines}
 use Rattle.controller.proofs.Sheets.{on-sheet}
 
 -- Refusals 1 to 7 come first, for every call; the call's own go on from the sheet's verdict.
@@ -120,9 +121,11 @@ module _ (s : Season) (area : List ℕ) where
       (λ h l i. torn l ∙ sym (rw (le-ltb 8192 (length area) h)))
       (λ h l i. refuses 9 (l .place) (omega arith) ∙ sym (rw (le-ltb 8192 (length area) h) (first-refused 9 (l .place) (lines (found.Refused 9 (l .place))))))
 
-  pub open-verdict : verdictOf (opened.numbersOf (opening s area)) ≡ firstOf Accepted (openLines area s)
+  pub open-verdict : verdictOf (openings.numbersOf (opened s area .opening)) ≡ firstOf Accepted (openLines area s)
   unfolding orRefused
-  open-verdict = by-opening (λ o. verdictOf (opened.numbersOf o)) (λ o. tornLine o ∷ []) numbers-refused (λ l. refl) (λ l. refl)
+  open-verdict =
+      ap (λ (o : Opening). verdictOf (openings.numbersOf o)) (opened-opening s area)
+      ∙ by-opening (λ o. verdictOf (openings.numbersOf o)) (λ o. tornLine o ∷ []) numbers-refused (λ l. refl) (λ l. refl)
 
   recorded-with-verdict : (v : Verdict) (w : Stores) → recordedWith v w .verdict ≡ v
   unfolding recordedWith
@@ -136,10 +139,6 @@ module _ (s : Season) (area : List ℕ) where
       (λ number place h. recorded-with-verdict (Refused number place) noStores)
       (λ l. recorded-with-verdict (refusal (seasonDays s) (length area) l e) (storesOf l e))
       (λ l. recorded-with-verdict (Refused 10 (l .place)) noStores ∙ sym (first-refused 10 (l .place) (refusals (seasonDays s) (length area) l e)))
-
-  pub mend-verdict : mended s area .verdict ≡ firstOf Accepted (mendLines area s)
-  unfolding mended mendedOn
-  mend-verdict = by-opening (λ o. mendedOn area o .verdict) (λ o. []) (λ number place h. refl) (λ l. refl) (λ l. refl)
 
   -- 17, then 10
   pub loss-verdict : (ky : ℕ) → verdictOf (lossNumbers (yield.lost s area ky)) ≡ firstOf Accepted (lossLines area ky s)
@@ -223,15 +222,6 @@ entry-refused s area e number value = go (opening s area)
     go (found.Clean l) h = none (refusal (seasonDays s) (length area) l e) (storesOf l e) h
     go (found.Torn l place) h = none (Refused 10 place) noStores h
     go (found.Refused m place) h = none (Refused m place) noStores h
-
-pub mend-refused : (s : Season) (area : List ℕ) (number value : ℕ) → mended s area .verdict ≡ Refused number value → mended s area ≡ notMended number value
-unfolding mended mendedOn
-mend-refused s area number value = go (opening s area)
-  where
-    go : (o : Opening) → mendedOn area o .verdict ≡ Refused number value → mendedOn area o ≡ notMended number value
-    go (found.Clean l) h = absurd (refused-accepted number value (sym h))
-    go (found.Torn l place) h = absurd (refused-accepted number value (sym h))
-    go (found.Refused m place) h = let i : m ≡ number = cc in let j : place ≡ value = cc in rw (i, j)
 
 pub plan-refused-keeps : (s : Season) (area out : List ℕ) (number value : ℕ) → planVerdict (plannedOn s out (opening s area)) ≡ Refused number value
     → plannedOn s out (opening s area) .1 ≡ out

@@ -1,8 +1,8 @@
 -- The calls on bytes. Refusals 1 to 7 concern every call that is given a sheet: it gives the first of them that applies, and else what it answers
--- of the sheet's season. The ninth call, write, is given numbers: `sheetWritten` of sheet's specs/Writing.antt.
+-- of the sheet's season. The eighth call, write, is given numbers: `sheetWritten` of sheet's specs/Writing.antt.
 use Prim.Native.Nat.{ℕ}
 use mathlib.Core.Bool.{cond}
-use mathlib.Core.List.{List}
+use mathlib.Core.List.{List, []}
 use lib.Dec.{ltb}
 use Rattle.season.specs.declared.Season.{Season}
 use Rattle.season.specs.Sheet.{seasonDays}
@@ -13,12 +13,12 @@ use Rattle.journal.specs.declared.Entry.{Entry}
 use Rattle.journal.specs.declared.Opening.{Opening}
 use Rattle.journal.specs.declared.Opening.the-variants as found
 use Rattle.journal.specs.declared.Recorded.{Recorded}
-use Rattle.journal.specs.declared.Mended.{Mended}
+use Rattle.journal.specs.declared.Opened.{Opened}
 use Rattle.journal.specs.declared.Lost.{Lost}
 use Rattle.journal.specs.declared.Lost.the-variants as losing
 use Rattle.journal.specs.Entries.{waiting}
 use Rattle.journal.specs.Opening.{opening}
-use Rattle.journal.specs.Calls.{noStores, recordedWith, recorded, notMended, mended}
+use Rattle.journal.specs.Calls.{noStores, recordedWith, recorded, openedWith, opened}
 use Rattle.journal.specs.Loss.{lost}
 use Rattle.planner.specs.declared.Planned.{Planned}
 use Rattle.planner.specs.declared.Planned.the-variants as planned
@@ -34,17 +34,13 @@ byVerdict refuse reply s (Refused number value) = refuse number value
 unfoldable pub onSheet : {A : Type 0} → (ℕ → ℕ → A) → (Season → A) → List ℕ → A
 onSheet refuse reply sheet = byVerdict refuse reply (sheetOf sheet .season) (sheetOf sheet .verdict)
 
--- Open.
-abbrev pub sheetOpened : List ℕ → List ℕ → Opening
-sheetOpened sheet area = onSheet found.Refused (λ s. opening s area) sheet
+-- Open. A refusal has no stores.
+abbrev pub sheetOpened : List ℕ → List ℕ → Opened
+sheetOpened sheet area = onSheet (λ number value. openedWith (found.Refused number value) []) (λ s. opened s area) sheet
 
--- Rain, irrigation and close: a refusal has no stores.
+-- Rain, irrigation and close, likewise.
 abbrev pub sheetRecorded : List ℕ → List ℕ → Entry → Recorded
 sheetRecorded sheet area e = onSheet (λ number value. recordedWith (Refused number value) noStores) (λ s. recorded s area e) sheet
-
--- Mend.
-abbrev pub sheetMended : List ℕ → List ℕ → Mended
-sheetMended sheet area = onSheet notMended (λ s. mended s area) sheet
 
 -- Loss, by a yield response factor.
 abbrev pub sheetLost : List ℕ → List ℕ → ℕ → Lost

@@ -13,11 +13,10 @@ use Rattle.sheet.specs.Numbers.{written}
 use Rattle.fields.specs.Fields.{seasonOf}
 use Rattle.sheet.specs.Sheets.{sheetOf}
 use Rattle.sheet.specs.Cases.{small}
-use Rattle.journal.specs.Opening as journal
-use Rattle.journal.specs.Calls.{mendedNumbers}
+use Rattle.journal.specs.Calls.{openedNumbers}
 use Rattle.planner.specs.declared.Planned.{Planned}
 use Rattle.planner.specs.Answer as planner
-use Rattle.controller.specs.Calls.{sheetOpened, sheetMended, sheetPlanned}
+use Rattle.controller.specs.Calls.{sheetOpened, sheetPlanned}
 
 -- The small sheet's bytes with these turns, which are its fortieth field.
 abbrev smallSheet : ℕ → List ℕ
@@ -53,10 +52,12 @@ cases =
     ∷ (cropUse 1000 500 2000 1000 ∷ cropUse 1001 500 2000 1000 ∷ cropUse 1500 500 2000 1000 ∷ [], 500 ∷ 499 ∷ 250 ∷ [])
     -- Net 6,280: gross 13,956 at 45 percent, 8,374 at 75.
     ∷ (grossOf 45 (netIs 6280) .0 ∷ grossOf 75 (netIs 6280) .0 ∷ [], 13956 ∷ 8374 ∷ [])
-    -- 01 AC FF FF is torn at 0; mending stores place 1, then place 0. FF AC FF FF is damaged.
-    ∷ (journal.numbersOf (sheetOpened (smallSheet 127) (0x01 ∷ 0xAC ∷ 0xFF ∷ 0xFF ∷ [])), 10 ∷ 0 ∷ 1 ∷ replicate 17 0)
-    ∷ (mendedNumbers (sheetMended (smallSheet 127) (0x01 ∷ 0xAC ∷ 0xFF ∷ 0xFF ∷ [])), 0 ∷ 0 ∷ 1 ∷ 0xFF ∷ 0 ∷ 0xFF ∷ [])
-    ∷ (journal.numbersOf (sheetOpened (smallSheet 127) (0xFF ∷ 0xAC ∷ 0xFF ∷ 0xFF ∷ [])), 9 ∷ 0 ∷ [])
+    -- 01 AC FF FF is torn at 0; mending stores place 1, then place 0: open hands them back (document 02, T-05). FF AC FF FF is damaged.
+    ∷ (
+      openedNumbers (sheetOpened (smallSheet 127) (0x01 ∷ 0xAC ∷ 0xFF ∷ 0xFF ∷ [])),
+      10 ∷ 0 ∷ 1 ∷ (replicate 17 0 ++ (1 ∷ 0xFF ∷ 0 ∷ 0xFF ∷ [])),
+    )
+    ∷ (openedNumbers (sheetOpened (smallSheet 127) (0xFF ∷ 0xAC ∷ 0xFF ∷ 0xFF ∷ [])), 9 ∷ 0 ∷ [])
     -- turns 127: one watering, day 3, 700, gross 934.
     ∷ (smallPlan 127, 0 ∷ 0 ∷ 1 ∷ 700 ∷ 934 ∷ 0 ∷ 0 ∷ 700 ∷ 0 ∷ 7 ∷ [])
     -- turns 2: refused 16, day 4.

@@ -1,6 +1,6 @@
 -- What is proved of the calls, gathered: `claims`, in proofs/Claims.antt, has a proof of each field. The lower crates' claims stand in their own `Claims`.
 use mathlib.Core.Path.{_≡_}
-use mathlib.Core.List.{List, _++_, map}
+use mathlib.Core.List.{List, [], _++_, map}
 use Prim.Native.Nat.{ℕ, _≤_}
 use lib.ListN.{length, take, drop}
 use Rattle.verdict.specs.declared.Verdict.the-variants.{Accepted, Refused}
@@ -17,19 +17,20 @@ use Rattle.sheet.specs.Writing.{writeLines, sheetWritten, writeVerdict, fieldsO
 use Rattle.journal.specs.declared.Entry.{Entry}
 use Rattle.journal.specs.declared.Ledger.{Ledger}
 use Rattle.journal.specs.declared.Opening.the-variants.{Clean}
-use Rattle.journal.specs.Opening as opened
+use Rattle.journal.specs.declared.Opening.the-variants as found
+use Rattle.journal.specs.Opening as openings
 use Rattle.journal.specs.Specified.{Opens}
-use Rattle.journal.specs.Calls.{noStores, recordedWith, notMended}
+use Rattle.journal.specs.Calls.{noStores, recordedWith, wipePlaces, openedWith, wipe, wipesIn}
 use Rattle.journal.specs.Loss.{lossNumbers}
 use Rattle.journal.specs.Book.{Step}
 use Rattle.journal.specs.Claims as journal
-use Rattle.journal.specs.Claims.{OpeningOccurs, RecordedOccurs, MendedOccurs}
+use Rattle.journal.specs.Claims.{RecordedOccurs, OpenedOccurs}
 use Rattle.planner.specs.Outlook.{daysLeft}
 use Rattle.planner.specs.Answer as planned
 use Rattle.planner.specs.Claims as planner
 use Rattle.decades.specs.Table as tabled
-use Rattle.controller.specs.Calls.{sheetOpened, sheetRecorded, sheetMended, sheetLost, sheetPlanned, sheetTabled}
-use Rattle.controller.specs.Refusals.{onLines, mendLines, openLines, lossLines, entryLines, planLines, tableLines}
+use Rattle.controller.specs.Calls.{sheetOpened, sheetRecorded, sheetLost, sheetPlanned, sheetTabled}
+use Rattle.controller.specs.Refusals.{onLines, openLines, lossLines, entryLines, planLines, tableLines}
 use Rattle.controller.specs.Demands.{PlanKept, Demand3}
 use Rattle.controller.specs.Cases.{cases}
 
@@ -38,26 +39,30 @@ pub record Claims : Type 0 where
   pub demand-3 : (sheet : List ℕ) → sheetOf sheet .verdict ≡ Accepted → (size : ℕ) → size ≤ 8192 → (steps : List Step) (out : List ℕ)
       → Demand3 sheet size steps out
   -- Demand 1: each call gives the first refusal that applies,
-  pub open-refuses : (sheet area : List ℕ) → verdictOf (opened.numbersOf (sheetOpened sheet area)) ≡ firstOf Accepted (onLines sheet (openLines area))
+  pub open-refuses : (sheet area : List ℕ) → verdictOf (openings.numbersOf (sheetOpened sheet area .opening)) ≡ firstOf Accepted (onLines sheet (openLines area))
   pub entry-refuses : (sheet area : List ℕ) (e : Entry) → sheetRecorded sheet area e .verdict ≡ firstOf Accepted (onLines sheet (entryLines area e))
-  pub mend-refuses : (sheet area : List ℕ) → sheetMended sheet area .verdict ≡ firstOf Accepted (onLines sheet (mendLines area))
   pub loss-refuses : (sheet area : List ℕ) (ky : ℕ) → verdictOf (lossNumbers (sheetLost sheet area ky)) ≡ firstOf Accepted (onLines sheet (lossLines area ky))
   pub plan-refuses : (sheet area out : List ℕ)
       → verdictOf (planned.numbersOf (sheetPlanned sheet area out .0)) ≡ firstOf Accepted (onLines sheet (planLines area (length out)))
   pub table-refuses : (sheet out : List ℕ) → verdictOf (tabled.numbersOf (sheetTabled sheet out .0)) ≡ firstOf Accepted (onLines sheet (tableLines (length out)))
   pub write-refuses : (vs out : List ℕ) → writeVerdict (sheetWritten vs out .0) ≡ firstOf Accepted (writeLines vs (length out))
   -- and a refused call has no stores and leaves every lent buffer as it was.
+  pub open-no-stores : (sheet area : List ℕ) (number value : ℕ) → sheetOpened sheet area .opening ≡ found.Refused number value
+      → sheetOpened sheet area ≡ openedWith (found.Refused number value) []
   pub entry-no-stores : (sheet area : List ℕ) (e : Entry) (number value : ℕ) → sheetRecorded sheet area e .verdict ≡ Refused number value
       → sheetRecorded sheet area e ≡ recordedWith (Refused number value) noStores
-  pub mend-no-stores : (sheet area : List ℕ) (number value : ℕ) → sheetMended sheet area .verdict ≡ Refused number value
-      → sheetMended sheet area ≡ notMended number value
   pub plan-unaltered : (sheet area out : List ℕ) (number value : ℕ) → verdictOf (planned.numbersOf (sheetPlanned sheet area out .0)) ≡ Refused number value
       → sheetPlanned sheet area out .1 ≡ out
   pub table-unaltered : (sheet out : List ℕ) (number value : ℕ) → verdictOf (tabled.numbersOf (sheetTabled sheet out .0)) ≡ Refused number value
       → sheetTabled sheet out .1 ≡ out
   pub write-unaltered : (vs out : List ℕ) (number value : ℕ) → sheetWritten vs out .0 ≡ writer.Refused number value → sheetWritten vs out .1 ≡ out
+  -- Of any area, not only after a history: open has no stores where the journal is clean; where it is torn, FF for each byte of the torn part that is
+  -- not FF, highest place first, and there is such a byte.
+  pub clean-no-stores : (sheet area : List ℕ) (l : Ledger) → sheetOpened sheet area .opening ≡ Clean l → sheetOpened sheet area ≡ openedWith (Clean l) []
+  pub torn-stores : (sheet area : List ℕ) (l : Ledger) (place : ℕ) → sheetOpened sheet area .opening ≡ found.Torn l place
+      → (wipesIn (sheetOpened sheet area) ≡ map wipe (wipePlaces place (drop place area))) × (1 ≤ sheetOpened sheet area .count)
   -- What demand 3 says of a plan holds on every area that opens clean with an open day, however it came about.
-  pub plan-right : (sheet area out : List ℕ) (l : Ledger) → sheetOf sheet .verdict ≡ Accepted → sheetOpened sheet area ≡ Clean l
+  pub plan-right : (sheet area out : List ℕ) (l : Ledger) → sheetOf sheet .verdict ≡ Accepted → sheetOpened sheet area .opening ≡ Clean l
       → l .day ≤ seasonDays (sheetOf sheet .season) → daysLeft (sheetOf sheet .season) (l .day) ≤ length out
       → PlanKept (sheetOf sheet .season) l out (sheetPlanned sheet area out)
   -- The planner's claims, whole: of any outlook, a plan is refused exactly when no choice holds, and a plan made is the best.
@@ -75,10 +80,10 @@ pub record Claims : Type 0 where
   -- Entries and their bytes match one to one too: `bytes-read`, `read-stands` and `bytes-one-to-one` of the journal's claims.
   pub entries : journal.Claims
   -- Opening finds clean, torn and damaged in document 01's words, behind the longest run of whole entries that would each have been accepted.
-  pub opening-says : (sheet area : List ℕ) → sheetOf sheet .verdict ≡ Accepted → length area ≤ 8192 → Opens (sheetOf sheet .season) area (sheetOpened sheet area)
+  pub opening-says : (sheet area : List ℕ) → sheetOf sheet .verdict ≡ Accepted → length area ≤ 8192
+      → Opens (sheetOf sheet .season) area (sheetOpened sheet area .opening)
   -- The calls' answers are among those on which their numberings are one to one (the journal's `Claims`; a plan's, a table's and a loss's are, on all answers).
-  pub opening-occurs : (sheet area : List ℕ) → OpeningOccurs (sheetOpened sheet area)
+  pub opened-occurs : (sheet area : List ℕ) → OpenedOccurs (sheetOpened sheet area)
   pub recorded-occurs : (sheet area : List ℕ) (e : Entry) → RecordedOccurs (sheetRecorded sheet area e)
-  pub mended-occurs : (sheet area : List ℕ) → MendedOccurs (sheetMended sheet area)
   -- The cases marked †.
   pub cases-hold : map (λ (c : List ℕ × List ℕ). c .0) cases ≡ map (λ (c : List ℕ × List ℕ). c .1) cases

@@ -20,12 +20,12 @@ use Rattle.planner.specs.Plan.{depths}
 use Rattle.planner.specs.Outlook.{outlook, daysLeft}
 use Rattle.planner.specs.Answer.{numbersOf}
 use Rattle.planner.specs.Claims.{MadeRight}
-use Rattle.controller.specs.Calls.{sheetOpened, sheetRecorded, sheetMended, sheetLost, sheetPlanned}
+use Rattle.controller.specs.Calls.{sheetOpened, sheetRecorded, sheetLost, sheetPlanned}
 use Rattle.controller.specs.Refusals.{planOf}
 
--- The entry calls, mend and open, all with one sheet.
+-- The entry calls and open, all with one sheet.
 abbrev pub calls : List ℕ → Device
-calls sheet = record { records = sheetRecorded sheet; mending = sheetMended sheet; opens = sheetOpened sheet }
+calls sheet = record { records = sheetRecorded sheet; opened = sheetOpened sheet }
 
 -- A plan's answer in document 01's numbers, and what is left in the lent buffer.
 abbrev pub numbered : Planned × List ℕ → List ℕ × List ℕ
@@ -47,8 +47,8 @@ pub record PlanKept (s : Season) (l : Ledger) (out : List ℕ) (a : Planned × L
 
 -- Demand 3 of a history on a blank area, with s the sheet's season, k the book after the history, `area` what its stores left, and a lent buffer.
 pub record Met (sheet : List ℕ) (s : Season) (size : ℕ) (steps : List Step) (out area : List ℕ) (k : Book) : Type 0 where
-  -- Every call answers what the book answers; opening then gives the book's answer and never finds damage; and the ledger equation holds over exactly
-  -- the accepted entries stored whole.
+  -- Every call answers what the book answers; opening then gives the book's answer, ledger and stores, and never finds damage; and the ledger equation
+  -- holds over exactly the accepted entries stored whole.
   pub kept : Kept (calls sheet) s size steps
   -- Where the journal is clean, a day is open and the buffer is long enough, the plan is right.
   pub plans : k .loose ≡ [] → ledgerOf s k .day ≤ seasonDays s → daysLeft s (ledgerOf s k .day) ≤ length out

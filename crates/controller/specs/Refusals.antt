@@ -47,20 +47,20 @@ ledgerIn s (found.Clean l) = l
 ledgerIn s (found.Torn l place) = l
 ledgerIn s (found.Refused number place) = start s
 
--- Mend: 8 and 9 concern every journal call.
-abbrev pub mendLines : List ℕ → Season → List Line
-mendLines area s = (ltb 8192 (length area), 8, 0) ∷ (damaged (opening s area) .0, 9, damaged (opening s area) .1) ∷ []
+-- 8 and 9 concern every journal call.
+abbrev pub journalLines : List ℕ → Season → List Line
+journalLines area s = (ltb 8192 (length area), 8, 0) ∷ (damaged (opening s area) .0, 9, damaged (opening s area) .1) ∷ []
 
 abbrev pub tornLine : Opening → Line
 tornLine o = (torn o .0, 10, torn o .1)
 
 -- Open: a torn journal is numbered 10 with its place. That is no refusal of open: the ledger comes with it.
 abbrev pub openLines : List ℕ → Season → List Line
-openLines area s = mendLines area s ++ (tornLine (opening s area) ∷ [])
+openLines area s = journalLines area s ++ (tornLine (opening s area) ∷ [])
 
 -- Loss: 17 stands right after 9, so before 10; 11 does not concern it.
 abbrev pub lossLines : List ℕ → ℕ → Season → List Line
-lossLines area ky s = mendLines area s ++ ((kyOutside ky, 17, 0) ∷ tornLine (opening s area) ∷ [])
+lossLines area ky s = journalLines area s ++ ((kyOutside ky, 17, 0) ∷ tornLine (opening s area) ∷ [])
 
 -- Rain, irrigation and close: 10 refuses them.
 abbrev pub entryLines : List ℕ → Entry → Season → List Line

@@ -3,7 +3,7 @@
 use decades::Tabled;
 use journal::Entry;
 use journal::Lost;
-use journal::Mended;
+use journal::Opened;
 use journal::Opening;
 use journal::Recorded;
 use journal::Source;
@@ -17,17 +17,17 @@ ghost use Rattle.journal.specs.declared.Entry.the-variants.{Water, Close};
 ghost use Rattle.journal.specs.declared.Source.the-variants.{Rain, Irrigation};
 ghost use Rattle.journal.specs.Opening.{opening};
 ghost use Rattle.sheet.specs.Writing.{sheetWritten};
-ghost use Rattle.controller.specs.Calls.{sheetOpened, sheetRecorded, sheetMended, sheetLost, plannedOn, sheetPlanned, sheetTabled};
+ghost use Rattle.controller.specs.Calls.{sheetOpened, sheetRecorded, sheetLost, plannedOn, sheetPlanned, sheetTabled};
 
-// What the journal holds: clean or torn with its ledger, or a refusal. Refusals 1 to 9.
-pub fn open(sheet: &[u8], area: &[u8]) -> Opening
+// What the journal holds: clean or torn with its ledger, or a refusal; and the places of a torn part to set to FF, in this order. Refusals 1 to 9.
+pub fn open(sheet: &[u8], area: &[u8]) -> Opened
     ensures { λ r. ⌜ r ≡ sheetOpened (now (sheet .entry)) (now (area .entry)) ⌝ }
 {
     let read = sheet::read(sheet);
     let season = read.season;
     let verdict = read.verdict;
     match verdict {
-        Verdict::Refused(number, value) => Opening::Refused(number, value),
+        Verdict::Refused(number, value) => journal::without_stores(Opening::Refused(number, value)),
         Verdict::Accepted => journal::open(season, area),
     }
 }
@@ -66,19 +66,6 @@ pub fn close(sheet: &[u8], area: &[u8]) -> Recorded
     record(sheet, area, Entry::Close)
 }
 
-// The places of a torn part to set to FF, in this order. Refusals 1 to 9.
-pub fn mend(sheet: &[u8], area: &[u8]) -> Mended
-    ensures { λ r. ⌜ r ≡ sheetMended (now (sheet .entry)) (now (area .entry)) ⌝ }
-{
-    let read = sheet::read(sheet);
-    let season = read.season;
-    let verdict = read.verdict;
-    match verdict {
-        Verdict::Refused(number, value) => journal::unmended(number, value),
-        Verdict::Accepted => journal::mend(season, area),
-    }
-}
-
 // Yield lost in the season and in each stage, by a yield response factor in hundredths. Refusals 1 to 9, 17 and 10.
 pub fn loss(sheet: &[u8], area: &[u8], ky: u32) -> Lost
     ensures { λ r. ⌜ r ≡ sheetLost (now (sheet .entry)) (now (area .entry)) ky ⌝ }
@@ -97,7 +84,7 @@ fn plan_season(s: Season, area: &[u8], depths: &mut [u32]) -> Planned
     requires { ⌜ AcceptedSeason s ⌝ }
     ensures { λ r. ⌜ (r, now (depths .exit)) ≡ plannedOn s (now (depths .entry)) (opening s (now (area .entry))) ⌝ }
 {
-    match journal::open(s, area) {
+    match journal::find(s, area) {
         Opening::Clean(l) => {
             if season::season_days(s) < l.day {
                 return Planned::Refused(11, 0);

@@ -1,9 +1,12 @@
 -- The answer goes by what reading the sheet answered.
+use Prim.Native.Nat.{ℕ}
 use mathlib.Core.Path.{sym, _∙_}
+use mathlib.Core.List.{[]}
 use denote.Ref.{now}
 use Rattle.controller.proofs.Sheets.{sheet-refused, sheet-accepted, read-accepted-season}
+use Rattle.journal.specs.declared.Opened.{Opened}
 use Rattle.journal.specs.declared.Opening.the-variants.{Refused}
-use Rattle.journal.specs.Opening.{opening}
+use Rattle.journal.specs.Calls.{openedWith, opened}
 use borrow.Author.Needs.{needs}
 use Rattle.controller.proofs.open.Statement.{statement}
 use Rattle.controller.proofs.open.Tie as tie
@@ -14,26 +17,41 @@ read-requires c κs = search needs
 enum-known-verdict : tie.Need-enum-known-verdict
 enum-known-verdict c = search needs
 
+without-stores-requires : tie.Need-without-stores-requires
+without-stores-requires c κs = search needs
+
 enum-told : tie.Need-enum-told
 enum-told c = search needs
 
 open-requires : tie.Need-open-requires
 open-requires c κs = read-accepted-season _ (c .before .before .before .read .result) (c .before .before .before .read .ensures) (c .enum-told .given .1)
 
+-- A refused sheet.
+abbrev unopened : ℕ → ℕ → Opened
+unopened number value = openedWith (Refused number value) []
+
 returns : tie.Need-returns
 returns c =
-    let at-verdict = c .before in
+    let at-verdict = c .before .before in
     let at-read = at-verdict .before .before .before in
     let start = at-read .before .before .before in
-    sym (sheet-refused Refused (λ s. opening s (now (start .args .area))) (now (start .args .sheet)) (at-read .read .result) (at-read .read .ensures) _ _ (at-verdict .verdict .given .1))
+    c .without-stores .ensures ∙ sym (sheet-refused unopened (λ s. opened s (now (start .args .area))) (now (start .args .sheet)) (at-read .read .result) (at-read .read .ensures) _ _ (at-verdict .verdict .given .1))
 
 returns-2 : tie.Need-returns-2
 returns-2 c =
     let at-enum-told = c .before in
     let at-read = at-enum-told .before .before .before in
     let start = at-read .before .before .before in
-    c .«open» .ensures ∙ sym (sheet-accepted Refused (λ s. opening s (now (start .args .area))) (now (start .args .sheet)) (at-read .read .result) (at-read .read .ensures) (at-enum-told .enum-told .given .1))
+    c .«open» .ensures ∙ sym (sheet-accepted unopened (λ s. opened s (now (start .args .area))) (now (start .args .sheet)) (at-read .read .result) (at-read .read .ensures) (at-enum-told .enum-told .given .1))
 
 pub open-spec : {M : Type 1} → statement M
 open-spec =
-    tie.close (tie.spec read-requires enum-known-verdict enum-told open-requires returns returns-2)
+    tie.close
+    (tie.spec
+    read-requires
+    enum-known-verdict
+    without-stores-requires
+    enum-told
+    open-requires
+    returns
+    returns-2)

@@ -7,8 +7,8 @@ use borrow.Author.Needs.{needs}
 use Rattle.controller.proofs.plan_season.Statement.{statement}
 use Rattle.controller.proofs.plan_season.Tie as tie
 
-open-requires : tie.Need-open-requires
-open-requires c κs = search needs
+find-requires : tie.Need-find-requires
+find-requires c κs = search needs
 
 enum-known-l : tie.Need-enum-known-l
 enum-known-l c = search needs
@@ -20,27 +20,27 @@ returns : tie.Need-returns
 returns c =
     let at-season-days = c .before .before in
     let at-l = at-season-days .before .before in
-    let at-open = at-l .before .before in
-    let start = at-open .before .before .before in
-    plan-closed (start .args .s) (now (start .args .area)) (now (start .args .depths)) (at-open .«open» .result) (at-open .«open» .ensures) _ _ (at-l .l .given .1) (at-season-days .season-days .ensures) (c .if1 .taken)
+    let at-find = at-l .before .before in
+    let start = at-find .before .before .before in
+    plan-closed (start .args .s) (now (start .args .area)) (now (start .args .depths)) (at-find .find .result) (at-find .find .ensures) _ _ (at-l .l .given .1) (at-season-days .season-days .ensures) (c .if1 .taken)
 
 add-make-plan : tie.Need-add-make-plan
 add-make-plan c =
     let at-if1 = c .before in
     let at-season-days = at-if1 .before .before in
     let at-l = at-season-days .before .before in
-    let at-open = at-l .before .before in
-    let start = at-open .before .before .before in
-    record { fits = omega (arith, ledger-plans (start .args .s) (now (start .args .area)) (now (start .args .depths)) (at-open .«open» .result) (at-open .«open» .ensures) (start .pre) _ _ (at-l .l .given .1) (at-season-days .season-days .ensures) (at-if1 .if1 .left)) }
+    let at-find = at-l .before .before in
+    let start = at-find .before .before .before in
+    record { fits = omega (arith, ledger-plans (start .args .s) (now (start .args .area)) (now (start .args .depths)) (at-find .find .result) (at-find .find .ensures) (start .pre) _ _ (at-l .l .given .1) (at-season-days .season-days .ensures) (at-if1 .if1 .left)) }
 
 make-plan-requires : tie.Need-make-plan-requires
 make-plan-requires c κs =
     let at-if1 = c .before .before in
     let at-season-days = at-if1 .before .before in
     let at-l = at-season-days .before .before in
-    let at-open = at-l .before .before in
-    let start = at-open .before .before .before in
-    let p = ledger-plans (start .args .s) (now (start .args .area)) (now (start .args .depths)) (at-open .«open» .result) (at-open .«open» .ensures) (start .pre) _ _ (at-l .l .given .1) (at-season-days .season-days .ensures) (at-if1 .if1 .left) in
+    let at-find = at-l .before .before in
+    let start = at-find .before .before .before in
+    let p = ledger-plans (start .args .s) (now (start .args .area)) (now (start .args .depths)) (at-find .find .result) (at-find .find .ensures) (start .pre) _ _ (at-l .l .given .1) (at-season-days .season-days .ensures) (at-if1 .if1 .left) in
     (start .pre .valid, (p .1, p .2))
 
 enum-known-place : tie.Need-enum-known-place
@@ -58,29 +58,29 @@ returns-2 c =
     let at-if1 = at-make-plan .before .before .before in
     let at-season-days = at-if1 .before .before in
     let at-l = at-season-days .before .before in
-    let at-open = at-l .before .before in
-    let start = at-open .before .before .before in
-    at-make-plan .make-plan .ensures ∙ plan-open (start .args .s) (now (start .args .area)) (now (start .args .depths)) (at-open .«open» .result) (at-open .«open» .ensures) _ _ (at-l .l .given .1) (at-season-days .season-days .ensures) (at-if1 .if1 .left)
+    let at-find = at-l .before .before in
+    let start = at-find .before .before .before in
+    at-make-plan .make-plan .ensures ∙ plan-open (start .args .s) (now (start .args .area)) (now (start .args .depths)) (at-find .find .result) (at-find .find .ensures) _ _ (at-l .l .given .1) (at-season-days .season-days .ensures) (at-if1 .if1 .left)
 
 returns-3 : tie.Need-returns-3
 returns-3 c =
     let at-place = c .before in
-    let at-open = at-place .before .before in
-    let start = at-open .before .before .before in
-    plan-torn (start .args .s) (now (start .args .area)) (now (start .args .depths)) (at-open .«open» .result) (at-open .«open» .ensures) _ _ (at-place .place .given .1)
+    let at-find = at-place .before .before in
+    let start = at-find .before .before .before in
+    plan-torn (start .args .s) (now (start .args .area)) (now (start .args .depths)) (at-find .find .result) (at-find .find .ensures) _ _ (at-place .place .given .1)
 
 returns-4 : tie.Need-returns-4
 returns-4 c =
     let at-number = c .before in
-    let at-open = at-number .before .before in
-    let start = at-open .before .before .before in
-    plan-refused (start .args .s) (now (start .args .area)) (now (start .args .depths)) (at-open .«open» .result) (at-open .«open» .ensures) _ _ (at-number .number .given .1)
+    let at-find = at-number .before .before in
+    let start = at-find .before .before .before in
+    plan-refused (start .args .s) (now (start .args .area)) (now (start .args .depths)) (at-find .find .result) (at-find .find .ensures) _ _ (at-number .number .given .1)
 
 pub plan-season-spec : {M : Type 1} → statement M
 plan-season-spec =
     tie.close
     (tie.spec
-    open-requires
+    find-requires
     enum-known-l
     season-days-requires
     returns
