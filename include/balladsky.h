@@ -1,4 +1,4 @@
-/* Balladsky: the block water controller of documents 01 and 02, nine calls on bytes. C99 and C++.
+/* Balladsky: the block water controller of documents 01 and 02, eight calls on bytes. C99 and C++.
  *
  * Link target/staticlib/libexports.a (made by `rt staticlib exports`, x86-64 Linux). It needs memcpy and memset, and
  * nothing else. Every call is proved to meet a contract that fixes each number it writes; crates/exports/src/lib.rt
@@ -30,10 +30,12 @@
  * STORES: you do them, one byte at a time, each whole or not at all.
  *   rain, irrigation, close: the bytes out[4], out[5].. at the places out[2], out[2] + 1.., out[3] of them, lowest
  *   place first.
- *   mend: FF at the places out[3], out[4].., out[2] of them, in that order, highest place first.
- * Until a call's stores are done, make no other call on that area but after a power cut. After a cut between any two
- * stores open finds the journal clean or torn, with the ledger of all that was entered whole; where torn, call mend and
- * do its stores, which may be cut in turn; then enter again what was cut.
+ *   open: FF at the places out[21], out[22].., out[20] of them, in that order, highest place first; none where clean.
+ * Until a call's stores are done, make no other call on that area but after a power cut.
+ * RECOVERY is one call. After a cut between any two stores open finds the journal clean or torn, with the ledger of all
+ * that was entered whole, which holds already; do its stores, then enter again what was cut. Its stores may be cut in
+ * turn: open again, and it hands back those that are left. Until they are done the journal is torn, and every entry,
+ * the plan and the loss are refused 10.
  *
  * STACK, THREADS AND SIGNALS
  *   Stack on x86-64, beside what memcpy and memset take: the plan less than 2.7 KB, every other call less than 1.2 KB.
@@ -54,7 +56,7 @@
 extern "C" {
 #endif
 
-#define BALLADSKY_OUT 20     /* numbers of out */
+#define BALLADSKY_OUT 24     /* numbers of out */
 #define BALLADSKY_AREA 8192  /* bytes of the longest area */
 #define BALLADSKY_DEPTHS 275 /* numbers that every plan fits in */
 #define BALLADSKY_ROWS 174   /* numbers that every table fits in: 29 rows of six */
@@ -83,8 +85,7 @@ enum {
     BALLADSKY_OPENING_TOO_DRY = 7,      /* the opening depletion is above the total water of day 1 */
     BALLADSKY_AREA_TOO_LONG = 8,        /* the area is longer than 8,192 bytes */
     BALLADSKY_DAMAGED = 9,              /* the journal is damaged [the place after the last whole entry] */
-    BALLADSKY_TORN = 10,                /* it is torn [the place after the last whole entry]; from open a finding, and
-                                           mend accepts it */
+    BALLADSKY_TORN = 10,                /* it is torn [the place after the last whole entry]; from open a finding */
     BALLADSKY_ALL_CLOSED = 11,          /* all days are closed */
     BALLADSKY_AMOUNT_OUT_OF_RANGE = 12, /* the amount is outside 1 to 120,000 */
     BALLADSKY_DAY_OVERFULL = 13,        /* the day's water would pass 240,000 */
@@ -98,7 +99,8 @@ enum {
  * [5] waiting irrigation, [6] season rain, [7] season irrigation, [8] season use, [9] season percolation, [10] the
  * place after the last entry, [11] season need: what the crop would have used on the closed days without stress. Then
  * need and use on the closed days of each stage: [12] and [13] initial, [14] and [15] development, [16] and [17] mid,
- * [18] and [19] late. Refusals 1 to 9. */
+ * [18] and [19] late. Then the stores that mend a torn journal: [20] how many places to set to FF, [21] to [23] three
+ * places, highest first, 0 past the count; all four are 0 where it is clean. Refusals 1 to 9. */
 void balladsky_open(const uint8_t *sheet, size_t sheet_length, const uint8_t *area, size_t area_length, uint32_t *out);
 
 /* Enters rain of the open day. Accepted: out[2] start, [3] count, [4] to [7] four bytes, 0 past the count. Refusals 1
@@ -112,10 +114,6 @@ void balladsky_irrigation(const uint8_t *sheet, size_t sheet_length, const uint8
 
 /* Closes the open day. As rain. Refusals 1 to 11, and 14. */
 void balladsky_close(const uint8_t *sheet, size_t sheet_length, const uint8_t *area, size_t area_length, uint32_t *out);
-
-/* Mends a torn journal. Accepted: out[2] count, [3] to [5] three places to set to FF, highest first, 0 past the count.
- * A clean journal has none. Refusals 1 to 9. */
-void balladsky_mend(const uint8_t *sheet, size_t sheet_length, const uint8_t *area, size_t area_length, uint32_t *out);
 
 /* The yield that stress on the closed days has cost, by one Ky. Accepted: out[2] the season's loss, [3] the initial
  * stage's, [4] development's, [5] mid's, [6] late's, in ten-thousandths: 100 * ky * (need - use) / need, rounded down,

@@ -39,17 +39,15 @@ static void store(uint32_t done) {
         area[out[2] + i] = (uint8_t)out[4 + i];
 }
 
-/* What firmware does when it comes up: open, and mend what a cut left. */
+/* What firmware does when it comes up: open, and do the stores that mend what a cut left. */
 static void come_up(void) {
     balladsky_open(sheet, sizeof sheet, area, sizeof area, out);
     if (out[0] == BALLADSKY_TORN) {
         printf("torn at %u\n", out[1]);
-        balladsky_mend(sheet, sizeof sheet, area, sizeof area, out);
-        must("mend");
-        printf("mended %u place%s:", out[2], out[2] == 1 ? "" : "s");
-        for (uint32_t i = 0; i < out[2]; i++) {
-            area[out[3 + i]] = 0xFF;
-            printf(" %u", out[3 + i]);
+        printf("mended %u place%s:", out[20], out[20] == 1 ? "" : "s");
+        for (uint32_t i = 0; i < out[20]; i++) {
+            area[out[21 + i]] = 0xFF;
+            printf(" %u", out[21 + i]);
         }
         printf("\n");
     } else {

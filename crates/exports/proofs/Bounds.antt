@@ -24,11 +24,11 @@ use Rattle.journal.specs.declared.Entry.{Entry}
 use Rattle.journal.specs.declared.Ledger.{Ledger}
 use Rattle.journal.specs.declared.Stores.{Stores}
 use Rattle.journal.specs.declared.Recorded.{Recorded}
-use Rattle.journal.specs.declared.Mended.{Mended}
+use Rattle.journal.specs.declared.Opened.{Opened}
 use Rattle.journal.specs.declared.Opening.the-variants as found
 use Rattle.journal.specs.Entries.{waiting, refusals, refusal}
 use Rattle.journal.specs.Opening.{opening}
-use Rattle.journal.specs.Calls.{storesOf, noStores, recordedWith, recordedOn, recorded, wipePlaces, notMended, mendedOn, mended}
+use Rattle.journal.specs.Calls.{storesOf, noStores, recordedWith, recordedOn, recorded, wipePlaces, openedWith, openedOn, opened}
 use Rattle.journal.specs.declared.Lost.the-variants as losing
 use Rattle.journal.specs.Loss.{lossesOf, lossRefusals, lostUnless, lostBy, lostOn, lost}
 use Rattle.journal.specs.Claims.{StoresOccur}
@@ -43,23 +43,75 @@ use Rattle.decades.specs.declared.Tabled.the-variants as table
 use Rattle.decades.specs.Table.{rowCount, tabled}
 use Rattle.decades.specs.Table as definition
 use Rattle.decades.proofs.Count.{rows-at-most}
-use Rattle.controller.specs.Calls.{plannedOn, sheetOpened, sheetRecorded, sheetMended, sheetLost, sheetPlanned, sheetTabled}
+use Rattle.controller.specs.Calls.{plannedOn, sheetOpened, sheetRecorded, sheetLost, sheetPlanned, sheetTabled}
 use Rattle.controller.proofs.Sheets.{on-sheet}
 use Rattle.controller.proofs.Refusing.{opening-by}
 use Rattle.controller.proofs.Claims.{claims}
-use Rattle.exports.specs.Small.{SmallVerdict, SmallOpening, SmallRecorded, SmallMended, SmallLost, SmallPlanned, SmallTabled, SmallWritten}
+use Rattle.exports.specs.Small.{SmallVerdict, SmallOpening, SmallOpened, SmallRecorded, SmallLost, SmallPlanned, SmallTabled, SmallWritten}
 
 -- ---- the sheet
 
 refused-small : (b : List ℕ) (number value : ℕ) → sheetOf b .verdict ≡ Refused number value → value ≤ 8192
 refused-small b number value e = omega (arith, refused-is b number value e .1)
 
--- ---- the journal
+-- ---- open
 
-pub opened-small : (sheet area : List ℕ) → SmallOpening (sheetOpened sheet area)
+abbrev EachUpTo : ℕ → List ℕ → Type 0
+EachUpTo most xs = (i : ℕ) → getD xs i 0 ≤ most
+
+each-append : (most : ℕ) (xs ys : List ℕ) → EachUpTo most xs → EachUpTo most ys → EachUpTo most (xs ++ ys)
+each-append most [] ys h g i = g i
+each-append most (x ∷ xs) ys h g zero = h 0
+each-append most (x ∷ xs) ys h g (suc i) = each-append most xs ys (λ j. h (suc j)) g i
+
+each-take : (most n : ℕ) (xs : List ℕ) → EachUpTo most xs → EachUpTo most (take n xs)
+each-take most zero xs h i = omega arith
+each-take most (suc n) [] h i = omega arith
+each-take most (suc n) (x ∷ xs) h zero = h 0
+each-take most (suc n) (x ∷ xs) h (suc i) = each-take most n xs (λ j. h (suc j)) i
+
+each-one : (most x : ℕ) → x ≤ most → EachUpTo most (x ∷ [])
+each-one most x h zero = h
+each-one most x h (suc i) = omega arith
+
+zeros-up-to : (most : ℕ) → EachUpTo most (0 ∷ 0 ∷ 0 ∷ [])
+zeros-up-to most zero = omega arith
+zeros-up-to most (suc zero) = omega arith
+zeros-up-to most (suc (suc zero)) = omega arith
+zeros-up-to most (suc (suc (suc i))) = omega arith
+
+wipe-places-up-to : (most p : ℕ) (bs : List ℕ) → p + length bs ≤ most → EachUpTo most (wipePlaces p bs)
+unfolding wipePlaces
+wipe-places-up-to most p [] h = λ i. omega arith
+wipe-places-up-to most p (b ∷ bs) h = test (eqb b 0xFF) (wipe-places-up-to most (suc p) bs (omega arith))
+  where
+    test : (t : Bool) → EachUpTo most (wipePlaces (suc p) bs) → EachUpTo most (elim t [ true ↦ wipePlaces (suc p) bs | false ↦ wipePlaces (suc p) bs ++ (p ∷ []) ])
+    test true g = g
+    test false g = each-append most (wipePlaces (suc p) bs) (p ∷ []) g (each-one most p (omega arith))
+
+-- What it found and the places.
+record Wipes (r : Opened) : Type 0 where
+  opening : SmallOpening (r .opening)
+  places : EachUpTo 8192 (r .places)
+
+opened-wipes : (sheet area : List ℕ) → Wipes (sheetOpened sheet area)
+unfolding opened openedOn
+opened-wipes sheet area =
+    on-sheet (λ number value. openedWith (found.Refused number value) []) (λ s. opened s area) sheet Wipes
+    (λ number value v. record { opening = refused-small sheet number value v; places = zeros-up-to 8192 })
+    (λ s v q o. opening-by s area (λ p. Wipes (openedOn area p))
+    (λ h. record { opening = omega arith; places = zeros-up-to 8192 })
+    (λ h l i. record { opening = omega arith; places = zeros-up-to 8192 })
+    (λ h l i. record {
+      opening = (omega arith, omega arith);
+      places = each-take 8192 3 (wipePlaces (l .place) (drop (l .place) area) ++ (0 ∷ 0 ∷ 0 ∷ [])) (each-append 8192 (wipePlaces (l .place) (drop (l .place) area)) (0 ∷ 0 ∷ 0 ∷ []) (wipe-places-up-to 8192 (l .place) (drop (l .place) area) (omega (arith, length-drop (l .place) area))) (zeros-up-to 8192));
+    })
+    (λ h l i. record { opening = omega arith; places = zeros-up-to 8192 }))
+
+pub opened-small : (sheet area : List ℕ) → SmallOpened (sheetOpened sheet area)
 opened-small sheet area =
-    on-sheet found.Refused (λ s. opening s area) sheet SmallOpening (λ number value e. refused-small sheet number value e)
-    (λ s v q o. opening-by s area SmallOpening (λ h. omega arith) (λ h l i. omega arith) (λ h l i. (omega arith, omega arith)) (λ h l i. omega arith))
+    let w = opened-wipes sheet area in
+    record { opening = w .opening; count = omega (arith, claims .opened-occurs sheet area .placed .few); places = w .places }
 
 -- ---- rain, irrigation and close
 
@@ -102,65 +154,6 @@ pub recorded-small : (sheet area : List ℕ) (e : Entry) → SmallRecorded (shee
 recorded-small sheet area e =
     let b = recorded-begins sheet area e in
     record { verdict = b .verdict; start = b .start; count = few-stores (sheetRecorded sheet area e .verdict) (sheetRecorded sheet area e .stores) (claims .recorded-occurs sheet area e) }
-
--- ---- mend
-
-abbrev EachUpTo : ℕ → List ℕ → Type 0
-EachUpTo most xs = (i : ℕ) → getD xs i 0 ≤ most
-
-each-append : (most : ℕ) (xs ys : List ℕ) → EachUpTo most xs → EachUpTo most ys → EachUpTo most (xs ++ ys)
-each-append most [] ys h g i = g i
-each-append most (x ∷ xs) ys h g zero = h 0
-each-append most (x ∷ xs) ys h g (suc i) = each-append most xs ys (λ j. h (suc j)) g i
-
-each-take : (most n : ℕ) (xs : List ℕ) → EachUpTo most xs → EachUpTo most (take n xs)
-each-take most zero xs h i = omega arith
-each-take most (suc n) [] h i = omega arith
-each-take most (suc n) (x ∷ xs) h zero = h 0
-each-take most (suc n) (x ∷ xs) h (suc i) = each-take most n xs (λ j. h (suc j)) i
-
-each-one : (most x : ℕ) → x ≤ most → EachUpTo most (x ∷ [])
-each-one most x h zero = h
-each-one most x h (suc i) = omega arith
-
-zeros-up-to : (most : ℕ) → EachUpTo most (0 ∷ 0 ∷ 0 ∷ [])
-zeros-up-to most zero = omega arith
-zeros-up-to most (suc zero) = omega arith
-zeros-up-to most (suc (suc zero)) = omega arith
-zeros-up-to most (suc (suc (suc i))) = omega arith
-
-wipe-places-up-to : (most p : ℕ) (bs : List ℕ) → p + length bs ≤ most → EachUpTo most (wipePlaces p bs)
-unfolding wipePlaces
-wipe-places-up-to most p [] h = λ i. omega arith
-wipe-places-up-to most p (b ∷ bs) h = test (eqb b 0xFF) (wipe-places-up-to most (suc p) bs (omega arith))
-  where
-    test : (t : Bool) → EachUpTo most (wipePlaces (suc p) bs) → EachUpTo most (elim t [ true ↦ wipePlaces (suc p) bs | false ↦ wipePlaces (suc p) bs ++ (p ∷ []) ])
-    test true g = g
-    test false g = each-append most (wipePlaces (suc p) bs) (p ∷ []) g (each-one most p (omega arith))
-
--- A verdict and the places.
-record Wipes (r : Mended) : Type 0 where
-  verdict : SmallVerdict (r .verdict)
-  places : EachUpTo 8192 (r .places)
-
-mended-wipes : (sheet area : List ℕ) → Wipes (sheetMended sheet area)
-unfolding mended mendedOn
-mended-wipes sheet area =
-    on-sheet notMended (λ s. mended s area) sheet Wipes
-    (λ number value v. record { verdict = refused-small sheet number value v; places = zeros-up-to 8192 })
-    (λ s v q o. opening-by s area (λ o. Wipes (mendedOn area o))
-    (λ h. record { verdict = omega arith; places = zeros-up-to 8192 })
-    (λ h l i. record { verdict = tt; places = zeros-up-to 8192 })
-    (λ h l i. record {
-      verdict = tt;
-      places = each-take 8192 3 (wipePlaces (l .place) (drop (l .place) area) ++ (0 ∷ 0 ∷ 0 ∷ [])) (each-append 8192 (wipePlaces (l .place) (drop (l .place) area)) (0 ∷ 0 ∷ 0 ∷ []) (wipe-places-up-to 8192 (l .place) (drop (l .place) area) (omega (arith, length-drop (l .place) area))) (zeros-up-to 8192));
-    })
-    (λ h l i. record { verdict = omega arith; places = zeros-up-to 8192 }))
-
-pub mended-small : (sheet area : List ℕ) → SmallMended (sheetMended sheet area)
-mended-small sheet area =
-    let w = mended-wipes sheet area in
-    record { verdict = w .verdict; count = omega (arith, claims .mended-occurs sheet area .0 .few); places = w .places }
 
 -- ---- loss
 

@@ -1,12 +1,15 @@
 -- An answer by its case: what holds of it, and that its numbers are those that were written.
 use Prim.Native.Nat.{ℕ}
 use mathlib.Core.Path.{_≡_, refl, sym, ap, subst, _∙_}
-use mathlib.Core.List.{List, [], _∷_}
+use mathlib.Core.List.{List, [], _∷_, _++_}
 use native.Mathlib.Omega.{arith}
 use lib.ListN.{length, getD}
 use Rattle.verdict.specs.declared.Verdict.{Verdict}
 use Rattle.journal.specs.declared.Recorded.{Recorded}
-use Rattle.journal.specs.declared.Mended.{Mended}
+use Rattle.journal.specs.declared.Opening.{Opening}
+use Rattle.journal.specs.declared.Opened.{Opened}
+use Rattle.controller.specs.Calls.{sheetOpened}
+use Rattle.controller.proofs.Claims.{claims}
 use Rattle.exports.specs.Written.{writtenOver}
 
 -- An answer a, which is the call's and of the case b.
@@ -17,12 +20,12 @@ module _ {A : Type 0} {a b call : A} (case : a ≡ b) (is : a ≡ call) where
   pub written-by : (numbers : A → List ℕ) (out : List ℕ) {last : List ℕ} → last ≡ writtenOver (numbers b) out → last ≡ writtenOver (numbers call) out
   written-by numbers out w = w ∙ ap (λ (x : A). writtenOver (numbers x) out) (sym case ∙ is)
 
--- The case of an entry or a mend is its verdict's.
+-- The case of an entry is its verdict's, that of an opening what it found.
 pub entry-case : (r : Recorded) {v : Verdict} → r .verdict ≡ v → r ≡ record { verdict = v; stores = r .stores }
 entry-case r e = λ i. record { verdict = e i; stores = r .stores }
 
-pub mend-case : (r : Mended) {v : Verdict} → r .verdict ≡ v → r ≡ record { verdict = v; places = r .places; count = r .count }
-mend-case r e = λ i. record { verdict = e i; places = r .places; count = r .count }
+pub opened-case : (r : Opened) {o : Opening} → r .opening ≡ o → r ≡ record { opening = o; places = r .places; count = r .count }
+opened-case r e = λ i. record { opening = e i; places = r .places; count = r .count }
 
 -- The array and the lent buffer, of the answer and the buffer that a call gives.
 pub both-by : {A : Type 0} {a b : A} {buffer last : List ℕ} {call : A × List ℕ} (numbers : A → List ℕ) (out : List ℕ) → a ≡ b → _≡_ {A = A × List ℕ} (a, buffer) call
@@ -38,6 +41,13 @@ three-are (a ∷ []) h = absurd (omega arith)
 three-are (a ∷ b ∷ []) h = absurd (omega arith)
 three-are (a ∷ b ∷ c ∷ []) h = refl
 three-are (a ∷ b ∷ c ∷ d ∷ xs) h = absurd (omega arith)
+
+-- Behind other numbers, the count and the places of an opening.
+pub places-over : {r : Opened} (sheet area : List ℕ) → r ≡ sheetOpened sheet area → (ns out : List ℕ)
+    → writtenOver (ns ++ (r .count ∷ getD (r .places) 0 0 ∷ getD (r .places) 1 0 ∷ getD (r .places) 2 0 ∷ [])) out ≡ writtenOver (ns ++ (r .count ∷ r .places)) out
+places-over {r} sheet area e ns out =
+    let size : length (r .places) ≡ 3 = ap (λ (q : Opened). length (q .places)) e ∙ claims .opened-occurs sheet area .placed .size in
+    ap (λ (ps : List ℕ). writtenOver (ns ++ (r .count ∷ ps)) out) (three-are (r .places) size)
 
 pub four-are : (xs : List ℕ) → length xs ≡ 4 → getD xs 0 0 ∷ getD xs 1 0 ∷ getD xs 2 0 ∷ getD xs 3 0 ∷ [] ≡ xs
 four-are [] h = absurd (omega arith)

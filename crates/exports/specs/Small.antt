@@ -6,7 +6,7 @@ use Rattle.verdict.specs.declared.Verdict.the-variants.{Accepted, Refused}
 use Rattle.journal.specs.declared.Opening.{Opening}
 use Rattle.journal.specs.declared.Opening.the-variants as found
 use Rattle.journal.specs.declared.Recorded.{Recorded}
-use Rattle.journal.specs.declared.Mended.{Mended}
+use Rattle.journal.specs.declared.Opened.{Opened}
 use Rattle.journal.specs.declared.Lost.{Lost}
 use Rattle.journal.specs.declared.Lost.the-variants as losing
 use Rattle.planner.specs.declared.Planned.{Planned}
@@ -25,15 +25,15 @@ SmallOpening (found.Clean l) = l .place ≤ 8192
 SmallOpening (found.Torn l place) = (l .place ≤ 8192) × (place ≤ 8192)
 SmallOpening (found.Refused number value) = value ≤ 8192
 
+pub record SmallOpened (r : Opened) : Type 0 where
+  pub opening : SmallOpening (r .opening)
+  pub count : r .count ≤ 8192
+  pub places : (i : ℕ) → getD (r .places) i 0 ≤ 8192
+
 pub record SmallRecorded (r : Recorded) : Type 0 where
   pub verdict : SmallVerdict (r .verdict)
   pub start : r .stores .start ≤ 8192
   pub count : r .stores .count ≤ 8192
-
-pub record SmallMended (r : Mended) : Type 0 where
-  pub verdict : SmallVerdict (r .verdict)
-  pub count : r .count ≤ 8192
-  pub places : (i : ℕ) → getD (r .places) i 0 ≤ 8192
 
 abbrev pub SmallLost : Lost → Type 0
 SmallLost (losing.Parts p) = Unit {0}

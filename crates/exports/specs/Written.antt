@@ -1,11 +1,14 @@
 -- The numbers that an exported call writes for C and Rust: document 01's number (0 accepted or clean, 10 torn, else the refusal), the number
--- returned with it, then the answer. An opening, a loss, a plan, a table and a sheet written have the numbering that stands beside them.
+-- returned with it, then the answer. A loss, a plan, a table and a sheet written have the numbering that stands beside them.
 use Prim.Native.Nat.{ℕ}
-use mathlib.Core.List.{List, _∷_}
+use mathlib.Core.List.{List, [], _∷_, _++_}
 use lib.Seq.{sets}
 use Rattle.verdict.specs.Refusals.{numbersThen}
 use Rattle.journal.specs.declared.Recorded.{Recorded}
-use Rattle.journal.specs.declared.Mended.{Mended}
+use Rattle.journal.specs.declared.Opening.{Opening}
+use Rattle.journal.specs.declared.Opening.the-variants as found
+use Rattle.journal.specs.declared.Opened.{Opened}
+use Rattle.journal.specs.Opening as openings
 use Rattle.planner.specs.declared.Planned.{Planned}
 use Rattle.planner.specs.Answer as planner
 use Rattle.decades.specs.declared.Tabled.{Tabled}
@@ -15,19 +18,25 @@ use Rattle.sheet.specs.Writing as writer
 
 -- How many numbers the caller's array has.
 abbrev pub outLength : ℕ
-outLength = 20
+outLength = 24
 
 -- Numbers over the first numbers of an array; those beyond keep what they held.
 abbrev pub writtenOver : List ℕ → List ℕ → List ℕ
 writtenOver ns out = sets out 0 ns
 
+-- Numbers that stand beside a ledger alone: a refusal has none.
+abbrev pub withLedger : Opening → List ℕ → List ℕ
+withLedger (found.Clean l) ns = ns
+withLedger (found.Torn l place) ns = ns
+withLedger (found.Refused number value) ns = []
+
+-- Open: what it found, then the count and three places, highest first, 0 past the count.
+abbrev pub openedOut : Opened → List ℕ
+openedOut r = openings.numbersOf (r .opening) ++ withLedger (r .opening) (r .count ∷ r .places)
+
 -- Rain, irrigation and close: the start, the count and four bytes, 0 past the count.
 abbrev pub recordedOut : Recorded → List ℕ
 recordedOut r = numbersThen (r .verdict) (r .stores .start ∷ r .stores .count ∷ r .stores .bytes)
-
--- Mend: the count and three places, highest first, 0 past the count.
-abbrev pub mendedOut : Mended → List ℕ
-mendedOut r = numbersThen (r .verdict) (r .count ∷ r .places)
 
 -- Plan, table and write: the array and the lent buffer, of the answer and the buffer that the controller gives.
 abbrev pub plannedOver : List ℕ → Planned × List ℕ → List ℕ × List ℕ

@@ -11,22 +11,21 @@ use planner::Planned;
 use sheet::Written;
 use verdict::Verdict;
 ghost use mathlib.Core.Path.{_≡_};
-ghost use mathlib.Core.List.{[], _∷_};
+ghost use mathlib.Core.List.{[], _∷_, _++_};
 ghost use Prim.Native.Nat.{_≤_};
 ghost use lib.ListN.{getD};
 ghost use Rattle.journal.specs.declared.Entry.the-variants.{Water, Close};
 ghost use Rattle.journal.specs.declared.Source.the-variants.{Rain, Irrigation};
 ghost use Rattle.journal.specs.Entries.{ledgerNumbers};
-ghost use Rattle.journal.specs.Opening as opened;
 ghost use Rattle.journal.specs.Loss.{lossNumbers};
 ghost use Rattle.planner.specs.Answer.{numbersOf};
 ghost use Rattle.sheet.specs.Writing.{sheetWritten};
-ghost use Rattle.controller.specs.Calls.{sheetOpened, sheetRecorded, sheetMended, sheetLost, sheetPlanned, sheetTabled};
-ghost use Rattle.exports.specs.Written.{writtenOver, recordedOut, mendedOut, plannedOver, tabledOver, sheetOver};
+ghost use Rattle.controller.specs.Calls.{sheetOpened, sheetRecorded, sheetLost, sheetPlanned, sheetTabled};
+ghost use Rattle.exports.specs.Written.{writtenOver, openedOut, recordedOut, plannedOver, tabledOver, sheetOver};
 ghost use Rattle.exports.specs.Small.{SmallPlanned};
 
 // How many numbers `out` has: those of the longest answer, an opening's.
-pub const OUT: usize = 20;
+pub const OUT: usize = 24;
 
 // ---- an answer's numbers
 
@@ -39,10 +38,17 @@ fn put_refusal(out: &mut [u32; OUT], number: u32, value: usize)
     out[1] = value as u32;
 }
 
-// Clean or torn: two numbers, then the ledger's.
-fn put_ledger(out: &mut [u32; OUT], number: u32, value: usize, l: Ledger)
-    requires { ⌜ (value ≤ 8192) × (l .place ≤ 8192) ⌝ }
-    ensures { λ _. ⌜ now (out .exit) ≡ writtenOver (number ∷ value ∷ ledgerNumbers l) (now (out .entry)) ⌝ }
+// Clean or torn: two numbers, the ledger's, then the count of an opening's stores and their three places.
+fn put_opening(
+    out: &mut [u32; OUT],
+    number: u32,
+    value: usize,
+    l: Ledger,
+    places: [usize; 3],
+    count: usize,
+)
+    requires { ⌜ (value ≤ 8192) × (l .place ≤ 8192) × (count ≤ 8192) × (getD places 0 0 ≤ 8192) × (getD places 1 0 ≤ 8192) × (getD places 2 0 ≤ 8192) ⌝ }
+    ensures { λ _. ⌜ now (out .exit) ≡ writtenOver (number ∷ value ∷ (ledgerNumbers l ++ (count ∷ getD places 0 0 ∷ getD places 1 0 ∷ getD places 2 0 ∷ []))) (now (out .entry)) ⌝ }
 {
     let stages = l.stages;
     let initial = stages.initial;
@@ -69,6 +75,10 @@ fn put_ledger(out: &mut [u32; OUT], number: u32, value: usize, l: Ledger)
     out[17] = middle.used;
     out[18] = late.need;
     out[19] = late.used;
+    out[20] = count as u32;
+    out[21] = places[0] as u32;
+    out[22] = places[1] as u32;
+    out[23] = places[2] as u32;
 }
 
 // Losses: the season's and the four stages'.
@@ -97,19 +107,6 @@ fn put_stores(out: &mut [u32; OUT], bytes: [u8; 4], start: usize, count: usize)
     out[5] = bytes[1] as u32;
     out[6] = bytes[2] as u32;
     out[7] = bytes[3] as u32;
-}
-
-// An accepted mend: the count and three places.
-fn put_places(out: &mut [u32; OUT], places: [usize; 3], count: usize)
-    requires { ⌜ (count ≤ 8192) × (getD places 0 0 ≤ 8192) × (getD places 1 0 ≤ 8192) × (getD places 2 0 ≤ 8192) ⌝ }
-    ensures { λ _. ⌜ now (out .exit) ≡ writtenOver (0 ∷ 0 ∷ count ∷ getD places 0 0 ∷ getD places 1 0 ∷ getD places 2 0 ∷ []) (now (out .entry)) ⌝ }
-{
-    out[0] = 0;
-    out[1] = 0;
-    out[2] = count as u32;
-    out[3] = places[0] as u32;
-    out[4] = places[1] as u32;
-    out[5] = places[2] as u32;
 }
 
 // A plan that is made: its totals.
@@ -168,17 +165,20 @@ fn put_sheet(fields: [u32; 40], sheet: &mut [u8], out: &mut [u32; OUT])
     }
 }
 
-// ---- the nine calls
+// ---- the eight calls
 
-// Clean or torn: open day, depletion, waiting rain, waiting irrigation, season rain, irrigation, use, percolation, place, need, and need and use of
-// each stage. Refusals 1 to 9.
+// Clean or torn: open day, depletion, waiting rain, waiting irrigation, season rain, irrigation, use, percolation, place, need, need and use of each
+// stage, and how many places to set to FF and three places, highest first. Refusals 1 to 9.
 #[no_mangle]
 pub extern "C" fn balladsky_open(sheet: &[u8], area: &[u8], out: &mut [u32; OUT])
-    ensures { λ _. ⌜ now (out .exit) ≡ writtenOver (opened.numbersOf (sheetOpened (now (sheet .entry)) (now (area .entry)))) (now (out .entry)) ⌝ }
+    ensures { λ _. ⌜ now (out .exit) ≡ writtenOver (openedOut (sheetOpened (now (sheet .entry)) (now (area .entry)))) (now (out .entry)) ⌝ }
 {
-    match controller::open(sheet, area) {
-        Opening::Clean(l) => put_ledger(out, 0, 0, l),
-        Opening::Torn(l, place) => put_ledger(out, 10, place, l),
+    let opened = controller::open(sheet, area);
+    let opening = opened.opening;
+    let places = opened.places;
+    match opening {
+        Opening::Clean(l) => put_opening(out, 0, 0, l, places, opened.count),
+        Opening::Torn(l, place) => put_opening(out, 10, place, l, places, opened.count),
         Opening::Refused(number, value) => put_refusal(out, number, value),
     }
 }
@@ -205,20 +205,6 @@ pub extern "C" fn balladsky_close(sheet: &[u8], area: &[u8], out: &mut [u32; OUT
     ensures { λ _. ⌜ now (out .exit) ≡ writtenOver (recordedOut (sheetRecorded (now (sheet .entry)) (now (area .entry)) Close)) (now (out .entry)) ⌝ }
 {
     put_entry(sheet, area, Entry::Close, out);
-}
-
-// Count, three places, highest first. Refusals 1 to 9.
-#[no_mangle]
-pub extern "C" fn balladsky_mend(sheet: &[u8], area: &[u8], out: &mut [u32; OUT])
-    ensures { λ _. ⌜ now (out .exit) ≡ writtenOver (mendedOut (sheetMended (now (sheet .entry)) (now (area .entry)))) (now (out .entry)) ⌝ }
-{
-    let mended = controller::mend(sheet, area);
-    let verdict = mended.verdict;
-    let places = mended.places;
-    match verdict {
-        Verdict::Accepted => put_places(out, places, mended.count),
-        Verdict::Refused(number, value) => put_refusal(out, number, value),
-    }
 }
 
 // The season's loss, and the four stages'. Refusals 1 to 9, 17 and 10.

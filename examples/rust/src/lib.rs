@@ -1,10 +1,10 @@
-//! The nine calls of include/balladsky.h for Rust. The header says what each writes and what its names stand for; a
+//! The eight calls of include/balladsky.h for Rust. The header says what each writes and what its names stand for; a
 //! reference here has what the header asks of a pointer.
 
 /// What a call writes: document 01's number, the number returned with it, then the answer.
 pub type Out = [u32; OUT];
 
-pub const OUT: usize = 20;
+pub const OUT: usize = 24;
 pub const AREA: usize = 8192;
 pub const DEPTHS: usize = 275;
 pub const ROWS: usize = 174;
@@ -37,7 +37,6 @@ mod c {
         pub fn balladsky_rain(sheet: *const u8, sheet_length: usize, area: *const u8, area_length: usize, amount: u32, out: *mut u32);
         pub fn balladsky_irrigation(sheet: *const u8, sheet_length: usize, area: *const u8, area_length: usize, amount: u32, out: *mut u32);
         pub fn balladsky_close(sheet: *const u8, sheet_length: usize, area: *const u8, area_length: usize, out: *mut u32);
-        pub fn balladsky_mend(sheet: *const u8, sheet_length: usize, area: *const u8, area_length: usize, out: *mut u32);
         pub fn balladsky_loss(
             sheet: *const u8, sheet_length: usize, area: *const u8, area_length: usize, ky: u32, out: *mut u32,
         );
@@ -63,10 +62,6 @@ pub fn irrigation(sheet: &[u8], area: &[u8], amount: u32, out: &mut Out) {
 
 pub fn close(sheet: &[u8], area: &[u8], out: &mut Out) {
     unsafe { c::balladsky_close(sheet.as_ptr(), sheet.len(), area.as_ptr(), area.len(), out.as_mut_ptr()) }
-}
-
-pub fn mend(sheet: &[u8], area: &[u8], out: &mut Out) {
-    unsafe { c::balladsky_mend(sheet.as_ptr(), sheet.len(), area.as_ptr(), area.len(), out.as_mut_ptr()) }
 }
 
 pub fn loss(sheet: &[u8], area: &[u8], ky: u32, out: &mut Out) {

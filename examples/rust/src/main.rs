@@ -1,6 +1,6 @@
 //! A season of four days on the small sheet of document 01, with two power cuts. Prints the decade table, the ledger
 //! and the lost yield.
-use balladsky::{close, irrigation, loss, mend, open, plan, rain, table, Out, ACCEPTED, DEPTHS, OUT, ROWS, TORN};
+use balladsky::{close, irrigation, loss, open, plan, rain, table, Out, ACCEPTED, DEPTHS, OUT, ROWS, TORN};
 
 /// 1 9; 1 1 1 1; 40 100 60; 500 and eleven 0; twelve 0; 100 20 20 50; 75; 0; turns 127.
 const SHEET: [u8; 41] = [
@@ -37,17 +37,15 @@ impl Firmware {
         }
     }
 
-    /// What firmware does when it comes up: open, and mend what a cut left.
+    /// What firmware does when it comes up: open, and do the stores that mend what a cut left.
     fn come_up(&mut self) {
         open(&SHEET, &self.area, &mut self.out);
         if self.out[0] != TORN {
             return self.accepted("open");
         }
         println!("torn at {}", self.out[1]);
-        mend(&SHEET, &self.area, &mut self.out);
-        self.accepted("mend");
-        print!("mended {} place{}:", self.out[2], if self.out[2] == 1 { "" } else { "s" });
-        for place in &self.out[3..][..self.out[2] as usize] {
+        print!("mended {} place{}:", self.out[20], if self.out[20] == 1 { "" } else { "s" });
+        for place in &self.out[21..][..self.out[20] as usize] {
             self.area[*place as usize] = 0xff;
             print!(" {place}");
         }
@@ -84,7 +82,7 @@ impl Firmware {
         for (name, value) in names.iter().zip(&self.out[2..]) {
             println!("{name} {value}");
         }
-        for (stage, sums) in ["initial", "development", "mid", "late"].iter().zip(self.out[12..].chunks(2)) {
+        for (stage, sums) in ["initial", "development", "mid", "late"].iter().zip(self.out[12..20].chunks(2)) {
             println!("{stage} need {}, use {}", sums[0], sums[1]);
         }
     }
