@@ -11,12 +11,12 @@ use balladsky::{self as library, Out, OUT};
 use harness::memory::{self, Guarded, Side};
 use harness::numbers;
 use harness::plain::book::{self, Book, Call};
-use harness::plain::{self, Opened};
+use harness::plain::{self, Opening};
 use harness::random::{self, Dice};
 
 /// A call, with what it is given beside sheet and area. Loss: Ky. Plan and table: how many numbers are lent.
 #[derive(Clone, Copy, Debug)]
-enum Ask { Open, Rain(u32), Irrigation(u32), Close, Mend, Loss(u32), Plan(usize), Table(usize) }
+enum Ask { Open, Rain(u32), Irrigation(u32), Close, Loss(u32), Plan(usize), Table(usize) }
 
 impl Ask {
     /// Which of the calls on a sheet it is, from 0.
@@ -26,10 +26,9 @@ impl Ask {
             Ask::Rain(_) => 1,
             Ask::Irrigation(_) => 2,
             Ask::Close => 3,
-            Ask::Mend => 4,
-            Ask::Loss(_) => 5,
-            Ask::Plan(_) => 6,
-            Ask::Table(_) => 7,
+            Ask::Loss(_) => 4,
+            Ask::Plan(_) => 5,
+            Ask::Table(_) => 6,
         }
     }
 
@@ -52,7 +51,6 @@ fn by_library(sheet: &[u8], area: &[u8], ask: Ask, out: &mut Out, lent: &mut [u3
         Ask::Rain(v) => library::rain(sheet, area, v, out),
         Ask::Irrigation(v) => library::irrigation(sheet, area, v, out),
         Ask::Close => library::close(sheet, area, out),
-        Ask::Mend => library::mend(sheet, area, out),
         Ask::Loss(ky) => library::loss(sheet, area, ky, out),
         Ask::Plan(_) => library::plan(sheet, area, lent, out),
         Ask::Table(_) => library::table(sheet, lent, out),
@@ -65,7 +63,6 @@ fn by_plain(sheet: &[u8], area: &[u8], ask: Ask, out: &mut Out, lent: &mut [u32]
         Ask::Rain(v) => numbers::recorded(plain::rain(sheet, area, v)),
         Ask::Irrigation(v) => numbers::recorded(plain::irrigation(sheet, area, v)),
         Ask::Close => numbers::recorded(plain::close(sheet, area)),
-        Ask::Mend => numbers::mended(plain::mend(sheet, area)),
         Ask::Loss(ky) => numbers::lost(plain::loss(sheet, area, ky)),
         Ask::Plan(_) => numbers::planned(plain::plan(sheet, area, lent)),
         Ask::Table(_) => numbers::tabled(plain::table(sheet, lent)),
@@ -74,7 +71,7 @@ fn by_plain(sheet: &[u8], area: &[u8], ask: Ask, out: &mut Out, lent: &mut [u32]
 }
 
 /// The kind of the writer, behind those of the calls on a sheet.
-const WRITE: usize = 8;
+const WRITE: usize = 7;
 
 /// `out` and the bytes lent to the writer.
 type Sheet = (Out, Vec<u8>);
@@ -143,7 +140,7 @@ fn noisy(noise: u32) -> Out {
     std::array::from_fn(|i| noise.wrapping_mul(i as u32 + 1))
 }
 
-struct Tally { cases: u64, answers: [[u64; 18]; 9], guards: Guards }
+struct Tally { cases: u64, answers: [[u64; 18]; 8], guards: Guards }
 
 impl Tally {
     /// One case: both are asked the same, with the same noise in what is lent.
@@ -181,7 +178,7 @@ impl Tally {
     fn all(&mut self, g: &mut Dice, sheet: &[u8], area: &[u8]) {
         let (depths, rows) = (g.pick(&[0, 1, 5, 11, 274, 275, 276]), g.pick(&[0, 5, 6, 11, 12, 167, 168, 173, 174, 175]));
         let (a, b, ky) = (random::amount(g), random::amount(g), random::ky(g));
-        let on_journal = [Ask::Open, Ask::Rain(a), Ask::Irrigation(b), Ask::Close, Ask::Mend, Ask::Loss(ky)];
+        let on_journal = [Ask::Open, Ask::Rain(a), Ask::Irrigation(b), Ask::Close, Ask::Loss(ky)];
         for ask in on_journal.into_iter().chain([Ask::Plan(depths), Ask::Table(rows)]) {
             self.same(g, sheet, area, ask);
         }
@@ -277,6 +274,30 @@ fn journals(t: &mut Tally, g: &mut Dice) {
     }
 }
 
+/// Openings of the small sheet by document 02, T-05, over noise: the first numbers of `out`, and its last four.
+fn openings(t: &mut Tally, g: &mut Dice) {
+    let sheet = plain::write_sheet(&random::small(127));
+    let cut: [&[u8]; 3] = [&[1, 7, 2, 0xff, 0x80], &[1, 7, 2, 0xff], &[1, 7]];
+    let cases: [(&[u8], usize, &[u32], Option<[u32; 4]>); 7] = [
+        (&[1, 0xac], 4, &[10, 0, 1, 0, 0, 0, 0, 0, 0, 0, 0], Some([2, 1, 0, 0])),
+        (&[0xff, 0xac], 4, &[9, 0], None),
+        (&[1, 0xff, 0x80], 4, &[10, 0, 1, 0, 0, 0, 0, 0, 0, 0, 0], Some([2, 2, 0, 0])),
+        (cut[0], 64, &[10, 2, 1, 0, 7, 0, 7, 0, 0, 0, 2], Some([2, 4, 2, 0])),
+        (cut[1], 64, &[10, 2, 1, 0, 7, 0, 7, 0, 0, 0, 2], Some([1, 2, 0, 0])),
+        (cut[2], 64, &[0, 0, 1, 0, 7, 0, 7, 0, 0, 0, 2], Some([0; 4])),
+        (&[], 8_193, &[8, 0], None),
+    ];
+    for (bytes, length, first, places) in cases {
+        let mut area = bytes.to_vec();
+        area.resize(length, 0xff);
+        let out = t.same(g, &sheet, &area, Ask::Open);
+        assert_eq!(out[..first.len()], *first, "{bytes:02x?} in {length}");
+        if let Some(places) = places {
+            assert_eq!((&out[11..20], &out[20..]), (&[0; 9][..], &places[..]), "{bytes:02x?} in {length}");
+        }
+    }
+}
+
 /// Lost yield: document 02's cases, the largest sums, and every Ky at an edge on journals and sheets of every kind.
 fn losses(t: &mut Tally, g: &mut Dice) {
     let small = random::small(127);
@@ -301,7 +322,7 @@ fn losses(t: &mut Tally, g: &mut Dice) {
     for (fields, days, sums, by_ky) in cases {
         let (sheet, mut area) = (plain::write_sheet(&fields), closes(days));
         area.resize(area.len() + g.of(0, 9) as usize, 0xff);
-        assert_eq!(t.same(g, &sheet, &area, Ask::Open)[11..], sums, "document 02's sums, {days} days of {fields:?}");
+        assert_eq!(t.same(g, &sheet, &area, Ask::Open)[11..20], sums, "document 02's sums, {days} days of {fields:?}");
         for &(ky, want) in by_ky {
             let out = t.same(g, &sheet, &area, Ask::Loss(ky));
             assert_eq!((&out[..2], &out[2..7]), (&[0, 0][..], &want[..]), "document 02's losses, Ky {ky}, {fields:?}");
@@ -324,7 +345,7 @@ fn losses(t: &mut Tally, g: &mut Dice) {
     most[9..21].fill(1_500);
     let (most, area) = (plain::write_sheet(&most), closes(275));
     let sums = [825_000, 135_000, 0, 210_000, 0, 270_000, 0, 210_000, 0];
-    assert_eq!(t.same(g, &most, &area, Ask::Open)[11..], sums, "the largest sums");
+    assert_eq!(t.same(g, &most, &area, Ask::Open)[11..20], sums, "the largest sums");
     for ky in 1..=200 {
         let out = t.same(g, &most, &area, Ask::Loss(ky));
         assert_eq!(out[2..7], [(100 * ky).min(10_000); 5], "no use at all, Ky {ky}");
@@ -367,15 +388,17 @@ fn asking(call: Call) -> Ask {
         Call::Rain(v) => Ask::Rain(v),
         Call::Irrigation(v) => Ask::Irrigation(v),
         Call::Close => Ask::Close,
-        Call::Mend => Ask::Mend,
+        Call::Open => Ask::Open,
     }
 }
 
 /// The stores that an answer hands back, in order.
 fn stores(call: Call, out: &Out) -> Vec<(usize, u8)> {
     match call {
+        Call::Open if [library::ACCEPTED, library::TORN].contains(&out[0]) => {
+            out[21..][..out[20] as usize].iter().map(|&place| (place as usize, 0xff)).collect()
+        }
         _ if out[0] != library::ACCEPTED => Vec::new(),
-        Call::Mend => (0..out[2] as usize).map(|i| (out[3 + i] as usize, 0xff)).collect(),
         _ => (0..out[3] as usize).map(|i| (out[2] as usize + i, out[4 + i] as u8)).collect(),
     }
 }
@@ -390,8 +413,8 @@ fn as_the_book(sheet: &[u8], area: &[u8], ask: Ask, out: Out, want: &[u32]) {
 
 /// Histories: after every call each cut is opened, and asked what comes next; then one of the cuts is what happened.
 /// The losses are those of the book's ledger, after each cut by one Ky and after the last call by each at an edge.
-fn histories(t: &mut Tally, g: &mut Dice) -> (u64, u64) {
-    let (mut calls, mut torn) = (0, 0);
+fn histories(t: &mut Tally, g: &mut Dice) -> (u64, u64, u64) {
+    let (mut calls, mut torn, mut cut_openings) = (0, 0, 0);
     for history in 1..=1_200 {
         let (long, fill) = (history % 16 == 0, history % 200 == 0);
         let sheet = plain::write_sheet(&random::fields(g, if long { plain::DAYS as u32 } else { 12 }));
@@ -402,13 +425,13 @@ fn histories(t: &mut Tally, g: &mut Dice) -> (u64, u64) {
         let calm = g.one_in(2);
         for _ in 0..if fill { 1_500 } else if long { 300 } else { 40 } {
             calls += 1;
-            let now = matches!(book.open(), Opened::Torn(..));
+            let now = matches!(book.open().opening, Opening::Torn(..));
             let amount = random::amount(g);
             let call = match g.of(0, 9) {
-                _ if now && !g.one_in(4) => Call::Mend,
+                _ if now && !g.one_in(4) => Call::Open,
                 0 | 1 | 2 => Call::Rain(amount),
                 3 | 4 => Call::Irrigation(amount),
-                5 if g.one_in(2) => Call::Mend,
+                5 if g.one_in(2) => Call::Open,
                 _ if fill && !g.one_in(4) => Call::Rain(g.of(16_384, 17_000)),
                 _ => Call::Close,
             };
@@ -419,6 +442,9 @@ fn histories(t: &mut Tally, g: &mut Dice) -> (u64, u64) {
                 println!("the book answers {want:?}");
                 differ("the book", &sheet, &area, asking(call), &(out, Vec::new()), &([0; OUT], Vec::new()));
             }
+            if call == Call::Open {
+                as_the_book(&sheet, &area, Ask::Open, out, &numbers::opened(book.open()));
+            }
             let ky = random::ky(g);
             for done in 0..=handed.len() {
                 let (mut cut, mut after) = (area.clone(), book.clone());
@@ -426,12 +452,13 @@ fn histories(t: &mut Tally, g: &mut Dice) -> (u64, u64) {
                     cut[place] = byte;
                 }
                 after.call(call, done);
-                torn += matches!(after.open(), Opened::Torn(..)) as u64;
+                torn += matches!(after.open().opening, Opening::Torn(..)) as u64;
+                cut_openings += (call == Call::Open && 0 < done && done < handed.len()) as u64;
                 let found = t.same(g, &sheet, &cut, Ask::Open);
                 as_the_book(&sheet, &cut, Ask::Open, found, &numbers::opened(after.open()));
                 let lost = t.same(g, &sheet, &cut, Ask::Loss(ky));
                 as_the_book(&sheet, &cut, Ask::Loss(ky), lost, &numbers::lost(after.loss(ky)));
-                for next in [Ask::Mend, Ask::Close, Ask::Rain(amount), Ask::Irrigation(amount)] {
+                for next in [Ask::Close, Ask::Rain(amount), Ask::Irrigation(amount)] {
                     t.same(g, &sheet, &cut, next);
                 }
             }
@@ -447,7 +474,7 @@ fn histories(t: &mut Tally, g: &mut Dice) -> (u64, u64) {
             as_the_book(&sheet, &area, Ask::Loss(ky), lost, &numbers::lost(book.loss(ky)));
         }
     }
-    (calls, torn)
+    (calls, torn, cut_openings)
 }
 
 /// How many numbers at either end of a long buffer are noise before a call and compared after it.
@@ -464,8 +491,7 @@ fn ends(lent: &[u32]) -> Vec<u32> {
 struct Long { sheet: &'static mut [u8], area: &'static mut [u8], lent: [&'static mut [u32]; 2], cases: u64 }
 
 /// The calls on a journal; a plan of the small sheet takes four numbers.
-const ON_JOURNAL: [Ask; 7] =
-    [Ask::Open, Ask::Rain(300), Ask::Irrigation(700), Ask::Close, Ask::Mend, Ask::Loss(100), Ask::Plan(4)];
+const ON_JOURNAL: [Ask; 6] = [Ask::Open, Ask::Rain(300), Ask::Irrigation(700), Ask::Close, Ask::Loss(100), Ask::Plan(4)];
 
 const SMALL: usize = 41;
 
@@ -570,11 +596,12 @@ fn main() {
     let seed = std::env::args().nth(1).map_or(20_261_115, |s| s.parse().expect("the seed is a number"));
     println!("seed {seed}");
     let mut g = Dice(seed);
-    let mut t = Tally { cases: 0, answers: [[0; 18]; 9], guards: Guards::new() };
+    let mut t = Tally { cases: 0, answers: [[0; 18]; 8], guards: Guards::new() };
     memory::report_faults();
-    let parts: [(&str, fn(&mut Tally, &mut Dice)); 7] = [
+    let parts: [(&str, fn(&mut Tally, &mut Dice)); 8] = [
         ("sheets, valid and damaged", sheets), ("sheets written", writer), ("the longest season and a day more, from every date", longest),
         ("areas of 0 to 8,193 bytes", lengths), ("journals clean, torn and damaged", journals),
+        ("openings by document 02", openings),
         ("lost yield, document 02's cases and every Ky at an edge", losses),
         ("plans, tables and losses of long seasons", plans),
     ];
@@ -584,11 +611,11 @@ fn main() {
         println!("{name}: {} cases", t.cases - before);
     }
     let before = t.cases;
-    let (calls, torn) = histories(&mut t, &mut g);
-    println!("histories, a cut after every store: {} cases, {calls} calls, {torn} torn openings", t.cases - before);
+    let (calls, torn, cut) = histories(&mut t, &mut g);
+    println!("histories, a cut after every store: {} cases, {calls} calls, {torn} torn openings, {cut} cuts within an opening's stores", t.cases - before);
     println!("guard pages: {} buffers ended before one, {} began behind one", t.guards.ended, t.guards.began);
     println!("lengths of 2^16, 2^31 and 2^32 and more: {} cases beside those counted below", long_lengths());
-    let names = ["open", "rain", "irrigation", "close", "mend", "loss", "plan", "table", "write"];
+    let names = ["open", "rain", "irrigation", "close", "loss", "plan", "table", "write"];
     for (name, seen) in names.iter().zip(t.answers) {
         let seen: Vec<String> = seen.iter().enumerate().filter(|(_, n)| **n > 0).map(|(k, n)| format!("{k}: {n}")).collect();
         println!("{name}, answers by number: {}", seen.join(", "));

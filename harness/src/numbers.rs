@@ -1,6 +1,6 @@
 //! The numbers that the exported calls write to `out`, made of the plain implementation's answers: the refusal's number,
 //! the number returned with it, then the answer.
-use crate::plain::{Ledger, Lost, Mended, Opened, Planned, Recorded, Tabled, Written};
+use crate::plain::{Ledger, Lost, Opened, Opening, Planned, Recorded, Tabled, Written};
 
 fn found(number: u32, place: usize, l: Ledger) -> Vec<u32> {
     let depths = [l.day, l.depletion, l.waiting_rain, l.waiting_irrigation, l.rain, l.irrigation, l.used, l.percolation];
@@ -8,12 +8,16 @@ fn found(number: u32, place: usize, l: Ledger) -> Vec<u32> {
     [&[number, place as u32][..], &depths, &[l.place as u32, l.need], stages.as_flattened()].concat()
 }
 
+/// Where there is a ledger, how many places to set to FF, and three places.
 pub fn opened(o: Opened) -> Vec<u32> {
-    match o {
-        Opened::Clean(l) => found(0, 0, l),
-        Opened::Torn(l, place) => found(10, place, l),
-        Opened::Refused(number, value) => vec![number, value as u32],
-    }
+    let mut numbers = match o.opening {
+        Opening::Clean(l) => found(0, 0, l),
+        Opening::Torn(l, place) => found(10, place, l),
+        Opening::Refused(number, value) => return vec![number, value as u32],
+    };
+    numbers.push(o.count as u32);
+    numbers.extend(o.places.map(|p| p as u32));
+    numbers
 }
 
 /// A refusal's two numbers, or the answer behind 0 and 0.
@@ -27,11 +31,6 @@ fn answered(number: u32, value: usize, answer: &[u32]) -> Vec<u32> {
 pub fn recorded(r: Recorded) -> Vec<u32> {
     let [a, b, c, d] = r.bytes.map(u32::from);
     answered(r.number, r.value, &[r.start as u32, r.count as u32, a, b, c, d])
-}
-
-pub fn mended(m: Mended) -> Vec<u32> {
-    let [a, b, c] = m.places.map(|p| p as u32);
-    answered(m.number, m.value, &[m.count as u32, a, b, c])
 }
 
 pub fn lost(l: Lost) -> Vec<u32> {

@@ -170,8 +170,8 @@ pub fn journal(g: &mut Dice, s: &Season, sheet: &[u8], length: usize) -> (Vec<u8
         put(&mut area, book::Entry::Irrigation(g.pick(&[1, 40, 900, 5_000])));
         put(&mut area, book::Entry::Rain(g.pick(&[1, 40, 900, 5_000])));
     }
-    match open(sheet, &area) {
-        Opened::Clean(l) => (area, l),
+    match open(sheet, &area).opening {
+        Opening::Clean(l) => (area, l),
         other => panic!("{other:?}"),
     }
 }

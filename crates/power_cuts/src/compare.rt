@@ -1,12 +1,13 @@
 // Whether an answer of the product is the model's.
-use crate::loose::unwiped;
+use crate::loose::Wipes;
+use crate::loose::wipes_of;
 use crate::model;
 use crate::model::EntryBytes;
 use crate::model::Totals;
 use journal::Ledger;
 use journal::Losses;
 use journal::Lost;
-use journal::Mended;
+use journal::Opened;
 use journal::Opening;
 use journal::Recorded;
 use journal::StageSums;
@@ -79,7 +80,7 @@ fn same_ledger(l: Ledger, t: Totals) -> bool {
 }
 
 // Clean when no byte is loose, else torn at the ledger's place.
-pub fn same_opening(o: Opening, t: Totals, loose: usize) -> bool {
+fn same_found(o: Opening, t: Totals, loose: usize) -> bool {
     match o {
         Opening::Clean(l) => loose == 0 && same_ledger(l, t),
         Opening::Torn(l, place) => loose != 0 && place as u64 == t.place && same_ledger(l, t),
@@ -87,34 +88,19 @@ pub fn same_opening(o: Opening, t: Totals, loose: usize) -> bool {
     }
 }
 
-// Place i of a mend that has so many: that of the loose byte that is so many behind the highest to wipe.
-fn same_place(
-    place: usize,
-    i: usize,
-    count: usize,
-    bytes: [u8; 4],
-    loose: usize,
-    from: u64,
-) -> bool {
-    if count <= i {
-        return true;
-    }
-    place as u64 == trial::saturating_add(from, unwiped(&bytes, loose, i) as u64)
+fn same_wipes(places: [usize; 3], count: usize, w: Wipes) -> bool {
+    let expected = w.places;
+    count == w.count
+        && places[0] as u64 == expected[0]
+        && places[1] as u64 == expected[1]
+        && places[2] as u64 == expected[2]
 }
 
-// The mend's places are those of the loose bytes that are not FF, highest first.
-pub fn same_mend(m: Mended, bytes: [u8; 4], loose: usize, from: u64) -> bool {
-    let v = m.verdict;
-    let p = m.places;
-    let count = m.count;
-    match v {
-        Verdict::Accepted => count <= 3
-            && same_place(p[0], 0, count, bytes, loose, from)
-            && same_place(p[1], 1, count, bytes, loose, from)
-            && same_place(p[2], 2, count, bytes, loose, from)
-            && unwiped(&bytes, loose, count) == 4,
-        Verdict::Refused(_, _) => false,
-    }
+// The whole answer: what is found, and the places of the loose bytes that are not FF, highest first, 0 past their count.
+pub fn same_opening(r: Opened, t: Totals, bytes: [u8; 4], loose: usize) -> bool {
+    let o = r.opening;
+    let places = r.places;
+    same_found(o, t, loose) && same_wipes(places, r.count, wipes_of(&bytes, loose, t.place))
 }
 
 fn same_losses(p: Losses, t: Totals, ky: u32) -> bool {

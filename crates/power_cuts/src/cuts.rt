@@ -20,11 +20,11 @@ struct Book {
     same: bool,
 }
 
-// A cut: the call, how many of its stores are done, and how many of the mend's that follows it; 4 for no mend.
+// A cut: the call, how many of its stores are done, and how many of those of the opening behind it; 4 where no opening's are done.
 struct Cut {
     call: usize,
     done: usize,
-    mended: usize,
+    reopened: usize,
 }
 
 fn book_of(count: usize, loose: usize, bytes: [u8; 4], same: bool) -> Book {
@@ -84,8 +84,8 @@ fn record(
     entered(entries, next, call, w, done)
 }
 
-// The model after so many stores of a mend: once all loose bytes are FF, none is loose.
-fn mended(b: Book, done: usize) -> Book {
+// The model after so many stores of an opening: once all loose bytes are FF, none is loose.
+fn wiped(b: Book, done: usize) -> Book {
     let mut bytes = b.bytes;
     loose::wipe(&mut bytes, b.loose, done);
     if loose::unwiped(&bytes, b.loose, 0) == 4 {
@@ -94,7 +94,8 @@ fn mended(b: Book, done: usize) -> Book {
     book_of(b.count, b.loose, bytes, b.same)
 }
 
-fn mend(
+// Open, of whose stores so many are done.
+fn open(
     sheet: &[u8],
     block: Block,
     area: &mut [u8],
@@ -103,11 +104,11 @@ fn mend(
     done: usize,
 ) -> Book {
     let t = model::worked(block, entries, b.count);
-    let m = controller::mend(sheet, area);
+    let r = controller::open(sheet, area);
     let bytes = b.bytes;
-    let next = with_verdict(b, compare::same_mend(m, bytes, b.loose, t.place));
-    trial::store_mend(area, m, done);
-    mended(next, done)
+    let next = with_verdict(b, compare::same_opening(r, t, bytes, b.loose));
+    trial::store_opening(area, r, done);
+    wiped(next, done)
 }
 
 // A yield response factor, and one that is refused.
@@ -115,10 +116,11 @@ const KY: u32 = 125;
 
 const NO_KY: u32 = 0;
 
-// The opening and the losses after a call.
+// The opening and the losses after a call; no store is done.
 fn opened(sheet: &[u8], block: Block, area: &[u8], entries: &[u32], b: Book) -> Book {
     let t = model::worked(block, entries, b.count);
-    let same = compare::same_opening(controller::open(sheet, area), t, b.loose)
+    let bytes = b.bytes;
+    let same = compare::same_opening(controller::open(sheet, area), t, bytes, b.loose)
         && compare::same_loss(controller::loss(sheet, area, KY), t, b.loose, KY)
         && compare::same_loss(controller::loss(sheet, area, NO_KY), t, b.loose, NO_KY);
     with_verdict(b, same)
@@ -134,15 +136,15 @@ fn step(
     call: u32,
     done: usize,
 ) -> Book {
-    if model::kind_of(call) == model::MEND {
-        let next = mend(sheet, block, area, entries, b, done);
+    if model::kind_of(call) == model::OPEN {
+        let next = open(sheet, block, area, entries, b, done);
         return opened(sheet, block, area, entries, next);
     }
     let next = record(sheet, block, area, entries, b, call, done);
     opened(sheet, block, area, entries, next)
 }
 
-// After the cut call: a mend that is cut too, and a whole one.
+// After the cut call: an opening whose stores are cut too, and a whole one.
 fn recover(
     sheet: &[u8],
     block: Block,
@@ -150,16 +152,16 @@ fn recover(
     entries: &mut [u32],
     b: Book,
     here: bool,
-    mended: usize,
+    reopened: usize,
 ) -> Book {
     if !here {
         return b;
     }
-    if mended == 4 {
+    if reopened == 4 {
         return b;
     }
-    let next = step(sheet, block, area, entries, b, model::MEND, mended);
-    step(sheet, block, area, entries, next, model::MEND, 4)
+    let next = step(sheet, block, area, entries, b, model::OPEN, reopened);
+    step(sheet, block, area, entries, next, model::OPEN, 4)
 }
 
 fn stores_done(here: bool, cut: Cut) -> usize {
@@ -187,7 +189,7 @@ fn play(
         let here = i == cut.call;
         let call = history[i];
         b = step(sheet, block, area, entries, b, call, stores_done(here, cut));
-        b = recover(sheet, block, area, entries, b, here, cut.mended);
+        b = recover(sheet, block, area, entries, b, here, cut.reopened);
         i = next;
     }
     b.same
@@ -214,14 +216,14 @@ fn play_on(sheet: &[u8], block: Block, size: isize, history: &[u32], cut: Cut) -
     play(sheet, block, &mut area[..n], &mut entries, history, cut)
 }
 
-// Every cut of a call: after 0 to 3 of its stores, and then no mend, or one cut after 0 to 3 of its own.
+// Every cut of a call: after 0 to 3 of its stores, and then no opening's stores done, or an opening cut after 0 to 3 of its own.
 fn cut_call(sheet: &[u8], block: Block, size: isize, history: &[u32], call: usize) -> bool {
     let mut k: usize = 0;
     while k < 20 {
         let cut = Cut {
             call,
             done: k / 5,
-            mended: k % 5,
+            reopened: k % 5,
         };
         if !play_on(sheet, block, size, history, cut) {
             print_cut(cut);
@@ -237,8 +239,8 @@ fn print_cut(cut: Cut) {
     print_number(cut.call as u64);
     print(b" cut after ");
     print_number(cut.done as u64);
-    print(b" stores, the mend after ");
-    print_number(cut.mended as u64);
+    print(b" stores, the opening after ");
+    print_number(cut.reopened as u64);
     print(b"\n");
 }
 

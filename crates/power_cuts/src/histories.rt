@@ -22,9 +22,9 @@ pub const LONG: Block = Block {
     ready: 1000,
 };
 
-// Amounts of one, two and three groups, some with a byte FF; the day's total at 240,000 and past it; amounts out of range; a mend of a clean journal;
-// entries after the last day.
-pub const ENTRIES: [u32; 24] = [
+// Amounts of one, two and three groups, some with a byte FF, one with FF before another byte; the day's total at 240,000 and past it; amounts out of
+// range; an opening of a clean journal; entries after the last day.
+pub const ENTRIES: [u32; 25] = [
     3001,
     2552,
     3,
@@ -44,12 +44,16 @@ pub const ENTRIES: [u32; 24] = [
     163842,
     20000001,
     655351,
+    165111,
     3,
     3,
     51,
     4,
     2552,
 ];
+
+// Document 02, T-05: a cut rain, wiped by two openings, the first of them cut, and entered again.
+pub const RAIN_AGAIN: [u32; 2] = [3001, 3001];
 
 // Days without water: use under stress.
 pub const WITHOUT_WATER: [u32; 6] = [3, 3, 3, 3, 3, 4];

@@ -43,6 +43,11 @@ fn cut_entries() -> bool {
     cut_small(64, &history, b"entries of every size")
 }
 
+fn cut_rain_again() -> bool {
+    let history = histories::RAIN_AGAIN;
+    cut_small(64, &history, b"the same rain again")
+}
+
 fn cut_without_water() -> bool {
     let history = histories::WITHOUT_WATER;
     cut_small(64, &history, b"days without water")
@@ -67,6 +72,7 @@ fn cut_long() -> bool {
 // Stops at the first difference.
 fn main() {
     if cut_entries()
+        && cut_rain_again()
         && cut_without_water()
         && cut_narrow(7, b"an area of 7 bytes")
         && cut_narrow(6, b"an area of 6 bytes")
@@ -74,7 +80,7 @@ fn main() {
         && cut_long()
     {
         print(
-            b"each after 0, 1, 2 and 3 stores, with no mend or one cut after 0, 1, 2 and 3: no difference\n",
+            b"each after 0, 1, 2 and 3 stores, with no opening's stores done or an opening cut after 0, 1, 2 and 3: no difference\n",
         );
     }
 }

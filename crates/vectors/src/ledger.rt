@@ -111,7 +111,9 @@ fn ledger_number(l: Ledger, which: u32) -> u64 {
 // and irrigation, 7 use, 8 percolation, 9 the place, 10 the season's need, 11 to 18 need and use of the four stages. 0
 // where the journal is not clean.
 fn opened(sheet: &[u8], area: &[u8], which: u32) -> u64 {
-    match controller::open(sheet, area) {
+    let r = controller::open(sheet, area);
+    let o = r.opening;
+    match o {
         Opening::Clean(l) => ledger_number(l, which),
         Opening::Torn(_, _) => 0,
         Opening::Refused(_, _) => 0,

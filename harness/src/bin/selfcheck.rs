@@ -49,8 +49,8 @@ fn closes(days: u32) -> Vec<u8> {
 fn opened_after(f: &[u32; 40], entries: &[u8]) -> Ledger {
     let mut area = entries.to_vec();
     area.resize(entries.len() + 9, 0xff);
-    match open(&write_sheet(f), &area) {
-        Opened::Clean(l) => l,
+    match open(&write_sheet(f), &area).opening {
+        Opening::Clean(l) => l,
         other => panic!("{other:?}"),
     }
 }
@@ -70,7 +70,8 @@ fn daggers() -> (u64, u64) {
     let at = sheet.len() - 2;
     sheet.splice(at..at + 1, [0x80, 0]);
     t.same(|| "80 00".into(), read_sheet(&sheet).err(), Some((2, at + 1)));
-    t.same(|| "01 80 00".into(), open(&write_sheet(&small(127)), &[1, 0x80, 0, 255, 255]), Opened::Refused(9, 0));
+    let whole = |opening| Opened { opening, count: 0, places: [0; 3] };
+    t.same(|| "01 80 00".into(), open(&write_sheet(&small(127)), &[1, 0x80, 0, 255, 255]), whole(Opening::Refused(9, 0)));
     // Crop need, seen as the first days' use from a full, deep soil.
     let deep = [(34, 400), (35, 300), (36, 300)];
     let kc = |dev: (u32, u32), late: u32| {
@@ -105,10 +106,15 @@ fn daggers() -> (u64, u64) {
     // The torn and the damaged journal.
     let s = write_sheet(&small(127));
     let blank = Ledger { day: 1, ..Ledger::default() };
-    t.same(|| "01 AC FF FF".into(), open(&s, &[1, 0xac, 255, 255]), Opened::Torn(blank, 0));
-    t.same(|| "its mending".into(), mend(&s, &[1, 0xac, 255, 255]), Mended { count: 2, places: [1, 0, 0], ..Mended::default() });
-    t.same(|| "FF AC FF FF".into(), open(&s, &[255, 0xac, 255, 255]), Opened::Refused(9, 0));
-    t.same(|| "its mending".into(), mend(&s, &[255, 0xac, 255, 255]).number, 9);
+    let torn = |l, place, count, places| Opened { opening: Opening::Torn(l, place), count, places };
+    t.same(|| "01 AC FF FF".into(), open(&s, &[1, 0xac, 255, 255]), torn(blank, 0, 2, [1, 0, 0]));
+    t.same(|| "FF AC FF FF".into(), open(&s, &[255, 0xac, 255, 255]), whole(Opening::Refused(9, 0)));
+    // Document 02, T-05: a torn part with a gap, as its stores are done.
+    let seven = Ledger { waiting_rain: 7, rain: 7, place: 2, ..blank };
+    let cut = [1, 7, 2, 255, 0x80, 255, 255];
+    t.same(|| "01 07 02 FF 80".into(), open(&s, &cut), torn(seven, 2, 2, [4, 2, 0]));
+    t.same(|| "01 07 02 FF".into(), open(&s, &[&cut[..4], &FF[..9]].concat()), torn(seven, 2, 1, [2, 0, 0]));
+    t.same(|| "01 07".into(), open(&s, &[&cut[..2], &FF[..9]].concat()), whole(Opening::Clean(seven)));
     // The small sheet.
     t.same(|| "C by day".into(), [1, 2, 3, 4].map(|d| need(&with(small(127), &deep), d)), [200, 500, 500, 300]);
     let planned = |turns| {
@@ -134,12 +140,12 @@ fn slow_loss(ky: u32, need: u32, used: u32) -> u32 {
 }
 
 /// The loss call by the list of refusals, on what an opening finds.
-fn slow_losses(found: Opened, ky: u32) -> Lost {
+fn slow_losses(found: Opening, ky: u32) -> Lost {
     match found {
-        Opened::Refused(number, value) => Lost { number, value, ..Lost::default() },
+        Opening::Refused(number, value) => Lost { number, value, ..Lost::default() },
         _ if ky == 0 || ky > 200 => Lost { number: 17, ..Lost::default() },
-        Opened::Torn(_, value) => Lost { number: 10, value, ..Lost::default() },
-        Opened::Clean(l) => {
+        Opening::Torn(_, value) => Lost { number: 10, value, ..Lost::default() },
+        Opening::Clean(l) => {
             let stages = l.stages.map(|s| slow_loss(ky, s.need, s.used));
             Lost { number: 0, value: 0, season: slow_loss(ky, l.need, l.used), stages }
         }
@@ -235,7 +241,7 @@ fn losses() -> (u64, u64) {
         used: 48_524, percolation: 9_302, place: 348, need: 48_565,
         stages: stages([7_917, 7_917, 9_262, 9_262, 13_950, 13_950, 17_436, 17_395]),
     };
-    t.same(|| "rape".into(), open(&rape, &area), Opened::Clean(want));
+    t.same(|| "rape".into(), open(&rape, &area).opening, Opening::Clean(want));
     let want = Lost { number: 0, value: 0, season: 8, stages: [0, 0, 0, 24] };
     t.same(|| "rape's loss".into(), loss(&rape, &area, 105), want);
     t.report("lost yield, document 02's numbers")
@@ -431,9 +437,9 @@ fn long_seasons(g: &mut Dice, percent: u32) -> (u64, u64) {
         t.same(|| format!("needs {f:?}"), (l.stages.map(|s| s.need), l.need), (needs, needs.iter().sum()));
         t.same(|| format!("sums {f:?}"), adds_up(&l), true);
         let ky = random::ky(g);
-        let found = if ended { Opened::Refused(9, l.place) } else { Opened::Torn(l, l.place) };
+        let found = if ended { Opening::Refused(9, l.place) } else { Opening::Torn(l, l.place) };
         t.same(|| format!("spoilt loss {ky} {f:?}"), loss(&sheet, &spoilt, ky), slow_losses(found, ky));
-        t.same(|| format!("loss {ky} {f:?}"), loss(&sheet, &area, ky), slow_losses(Opened::Clean(l), ky));
+        t.same(|| format!("loss {ky} {f:?}"), loss(&sheet, &area, ky), slow_losses(Opening::Clean(l), ky));
         stressed += (l.used < l.need) as u32;
         if ended {
             t.same(|| format!("closed plan {f:?}"), refusal(&area, 0), (11, 0, 0, true));
@@ -606,24 +612,20 @@ fn asked(sheet: &[u8], area: &[u8], call: Call) -> book::Answer {
     let stores = |r: Recorded| {
         assert!(r.bytes[r.count..].iter().all(|&b| b == 0) && (r.number == 0 || r.start == 0 && r.count == 0));
         let stores = (0..r.count).map(|i| (r.start + i, r.bytes[i])).collect();
-        book::Answer { number: r.number, value: r.value, stores }
+        book::Answer { number: r.number, value: r.value, ledger: None, stores }
     };
     match call {
         Call::Rain(v) => stores(rain(sheet, area, v)),
         Call::Irrigation(v) => stores(irrigation(sheet, area, v)),
         Call::Close => stores(close(sheet, area)),
-        Call::Mend => {
-            let m = mend(sheet, area);
-            assert!(m.places[m.count..].iter().all(|&p| p == 0));
-            book::Answer { number: m.number, value: m.value, stores: m.places[..m.count].iter().map(|&p| (p, 0xff)).collect() }
-        }
+        Call::Open => open(sheet, area).into(),
     }
 }
 
 fn histories(g: &mut Dice, percent: u32) -> (u64, u64) {
     let mut t = tally();
     let (mut calls, mut histories, mut cuts, mut longest, mut fullest) = (0u64, 0, 0u64, 0, 0);
-    let (mut seen, mut torn_openings, mut cut_mends) = ([0u64; 17], 0u64, 0u64);
+    let (mut seen, mut torn_openings, mut cut_openings) = ([0u64; 17], 0u64, 0u64);
     while calls < 3_000 * percent as u64 {
         histories += 1;
         let (long, fill) = (histories % 16 == 0, histories % 160 == 0);
@@ -636,13 +638,13 @@ fn histories(g: &mut Dice, percent: u32) -> (u64, u64) {
         let calm = g.one_in(2);
         for _ in 0..if fill { 4_000 } else if long { 1_200 } else { 40 } {
             calls += 1;
-            let torn = matches!(open(&sheet, &area), Opened::Torn(..));
+            let torn = matches!(open(&sheet, &area).opening, Opening::Torn(..));
             let amount = random::amount(g);
             let call = match g.of(0, 9) {
-                _ if torn && !g.one_in(4) => Call::Mend,
+                _ if torn && !g.one_in(4) => Call::Open,
                 0 | 1 | 2 => Call::Rain(amount),
                 3 | 4 => Call::Irrigation(amount),
-                5 if g.one_in(2) => Call::Mend,
+                5 if g.one_in(2) => Call::Open,
                 _ if fill && !g.one_in(4) => Call::Rain(g.of(16_384, 17_000)),
                 _ => Call::Close,
             };
@@ -660,12 +662,12 @@ fn histories(g: &mut Dice, percent: u32) -> (u64, u64) {
                 }
                 b.call(call, done);
                 cuts += 1;
-                torn_openings += matches!(b.open(), Opened::Torn(..)) as u64;
-                cut_mends += (call == Call::Mend && done > 0 && done < all) as u64;
+                torn_openings += matches!(b.open().opening, Opening::Torn(..)) as u64;
+                cut_openings += (call == Call::Open && done > 0 && done < all) as u64;
                 t.same(|| format!("opening after {done} of {call:?}: {a:02x?} of {f:?}"), open(&sheet, &a), b.open());
                 if !long {
                     // what each call would answer next, on the cut journal
-                    for next in [Call::Mend, Call::Close, Call::Rain(amount)] {
+                    for next in [Call::Open, Call::Close, Call::Rain(amount)] {
                         t.same(|| format!("{next:?} after {done} of {call:?}: {a:02x?}"), asked(&sheet, &a, next), b.answer(next));
                     }
                     let what = || format!("loss {ky} after {done} of {call:?}: {a:02x?}");
@@ -687,7 +689,7 @@ fn histories(g: &mut Dice, percent: u32) -> (u64, u64) {
             t.same(|| format!("last loss {ky}: {area:02x?} of {f:?}"), loss(&sheet, &area, ky), book.loss(ky));
         }
     }
-    println!("{histories} histories, {calls} calls, {cuts} cuts opened, {torn_openings} of them torn, {cut_mends} within a mend; latest open day {longest}, longest journal {fullest}");
+    println!("{histories} histories, {calls} calls, {cuts} cuts opened, {torn_openings} of them torn, {cut_openings} within an opening's stores; latest open day {longest}, longest journal {fullest}");
     println!("calls by answer, 0 accepted: {:?}", seen);
     t.report("histories against the book")
 }
@@ -740,28 +742,28 @@ fn any_bytes(g: &mut Dice, percent: u32) -> (u64, u64) {
         };
         let want = if rest.iter().all(|&b| b == 0xff) {
             seen[0] += 1;
-            Opened::Clean(l)
+            Opening::Clean(l)
         } else if l.day <= s.days && begun(rest[0]) {
             seen[1] += 1;
-            Opened::Torn(l, l.place)
+            Opening::Torn(l, l.place)
         } else {
             seen[2] += 1;
-            Opened::Refused(9, l.place)
+            Opening::Refused(9, l.place)
         };
-        t.same(|| format!("any bytes {area:02x?} of {f:?}"), open(&sheet, &area), want);
+        let mut places: Vec<usize> = match want {
+            Opening::Torn(..) => (place..room).rev().filter(|&p| area[p] != 0xff).collect(),
+            _ => Vec::new(),
+        };
+        let count = places.len();
+        places.resize(3, 0);
+        let whole = Opened { opening: want, count, places: places.try_into().unwrap() };
+        t.same(|| format!("any bytes {area:02x?} of {f:?}"), open(&sheet, &area), whole);
         t.same(|| format!("sums {l:?}"), adds_up(&l), true);
         let ky = random::ky(g);
         t.same(|| format!("loss {ky} of {area:02x?} of {f:?}"), loss(&sheet, &area, ky), slow_losses(want, ky));
-        let mended = mend(&sheet, &area);
-        let want_places: Vec<usize> = if matches!(want, Opened::Torn(..)) {
-            (place..room).rev().filter(|&p| area[p] != 0xff).collect()
-        } else {
-            Vec::new()
-        };
-        t.same(|| format!("mended {area:02x?}"), mended.places[..mended.count].to_vec(), want_places);
     }
     println!("any bytes: clean {}, torn {}, damaged {}", seen[0], seen[1], seen[2]);
-    t.same(|| "8,193 bytes".into(), open(&write_sheet(&small(1)), &[0xff; 8_193]), Opened::Refused(8, 0));
+    t.same(|| "8,193 bytes".into(), open(&write_sheet(&small(1)), &[0xff; 8_193]).opening, Opening::Refused(8, 0));
     // Cuts after one and after two stores of 01 FF 01 leave the same area and different loose bytes.
     let (sheet, mut area) = (write_sheet(&small(1)), [0xff; 8]);
     area[0] = 1;
@@ -769,7 +771,7 @@ fn any_bytes(g: &mut Dice, percent: u32) -> (u64, u64) {
         let mut b = Book::new(read_sheet(&sheet).unwrap(), 8);
         b.call(Call::Rain(255), done);
         t.same(|| "01 FF".into(), open(&sheet, &area), b.open());
-        for call in [Call::Rain(255), Call::Close, Call::Mend] {
+        for call in [Call::Rain(255), Call::Close, Call::Open] {
             t.same(|| "01 FF".into(), asked(&sheet, &area, call), b.answer(call));
         }
     }
