@@ -70,8 +70,8 @@ fn daggers() -> (u64, u64) {
     let at = sheet.len() - 2;
     sheet.splice(at..at + 1, [0x80, 0]);
     t.same(|| "80 00".into(), read_sheet(&sheet).err(), Some((2, at + 1)));
-    let whole = |opening| Opened { opening, count: 0, places: [0; 3] };
-    t.same(|| "01 80 00".into(), open(&write_sheet(&small(127)), &[1, 0x80, 0, 255, 255]), whole(Opening::Refused(9, 0)));
+    let without_stores = |opening| Opened { opening, count: 0, places: [0; 3] };
+    t.same(|| "01 80 00".into(), open(&write_sheet(&small(127)), &[1, 0x80, 0, 255, 255]), without_stores(Opening::Refused(9, 0)));
     // Crop need, seen as the first days' use from a full, deep soil.
     let deep = [(34, 400), (35, 300), (36, 300)];
     let kc = |dev: (u32, u32), late: u32| {
@@ -108,13 +108,13 @@ fn daggers() -> (u64, u64) {
     let blank = Ledger { day: 1, ..Ledger::default() };
     let torn = |l, place, count, places| Opened { opening: Opening::Torn(l, place), count, places };
     t.same(|| "01 AC FF FF".into(), open(&s, &[1, 0xac, 255, 255]), torn(blank, 0, 2, [1, 0, 0]));
-    t.same(|| "FF AC FF FF".into(), open(&s, &[255, 0xac, 255, 255]), whole(Opening::Refused(9, 0)));
+    t.same(|| "FF AC FF FF".into(), open(&s, &[255, 0xac, 255, 255]), without_stores(Opening::Refused(9, 0)));
     // Document 02, T-05: a torn part with a gap, as its stores are done.
     let seven = Ledger { waiting_rain: 7, rain: 7, place: 2, ..blank };
     let cut = [1, 7, 2, 255, 0x80, 255, 255];
     t.same(|| "01 07 02 FF 80".into(), open(&s, &cut), torn(seven, 2, 2, [4, 2, 0]));
     t.same(|| "01 07 02 FF".into(), open(&s, &[&cut[..4], &FF[..9]].concat()), torn(seven, 2, 1, [2, 0, 0]));
-    t.same(|| "01 07".into(), open(&s, &[&cut[..2], &FF[..9]].concat()), whole(Opening::Clean(seven)));
+    t.same(|| "01 07".into(), open(&s, &[&cut[..2], &FF[..9]].concat()), without_stores(Opening::Clean(seven)));
     // The small sheet.
     t.same(|| "C by day".into(), [1, 2, 3, 4].map(|d| need(&with(small(127), &deep), d)), [200, 500, 500, 300]);
     let planned = |turns| {
