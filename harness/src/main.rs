@@ -1,9 +1,10 @@
 //! Compares the static library with the plain implementation on random cases: sheets valid, damaged and written,
 //! journals clean, torn and damaged, areas of 0 to 8,193 bytes, histories with a cut after every store. The whole of
 //! `out` and of each lent buffer is compared, noise beyond the answer included; histories are compared with the book
-//! too, and lost yield with document 02's cases. In every case each buffer that the library is given ends before a
-//! guard page or begins behind one, so that a read or write past it is a fault, and sheet, area and fields must be as
-//! they were. Then lengths from 2^16 to 2^32 and a little more, which are other lengths to whoever keeps fewer bits.
+//! too, and openings and lost yield with document 02's cases. In every case each buffer that the library is given ends
+//! before a guard page or begins behind one, so that a read or write past it is a fault, and sheet, area and fields
+//! must be as they were. Then lengths from 2^16 to 2^32 and a little more, which are other lengths to whoever keeps
+//! fewer bits.
 //! Prints its seed; stops with status 1 at the first difference or fault.
 //!
 //!     cargo run --release --manifest-path harness/Cargo.toml [SEED]

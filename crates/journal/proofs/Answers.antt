@@ -241,8 +241,7 @@ pub torn-tail : (s : Season) (area : List ℕ) (v : AcceptedSeason s) (p : ℕ) 
     → (length (trim (take (length area - p) (drop p area))) ≤ 3) × (p + length (take (length area - p) (drop p area)) ≤ 8192)
 torn-tail s area v p t = rw (tail-part p area) (t .short, rw length-drop (omega (arith, t .few, t .inside)))
 
--- a torn opening's stores are FF at each of those places, of which there are one to three
-pub take-placed : (ps : List ℕ) → length ps ≤ 3 → take (length ps) (take 3 (ps ++ (0 ∷ 0 ∷ 0 ∷ []))) ≡ ps
+take-placed : (ps : List ℕ) → length ps ≤ 3 → take (length ps) (take 3 (ps ++ (0 ∷ 0 ∷ 0 ∷ []))) ≡ ps
 take-placed [] h = refl
 take-placed (a ∷ []) h = refl
 take-placed (a ∷ b ∷ []) h = refl
@@ -259,6 +258,7 @@ pub wipes-opened : (o : Opening) (ps : List ℕ) → length ps ≤ 3 → wipesIn
 unfolding wipesIn
 wipes-opened o ps h = ap (map wipe) (take-placed ps h)
 
+-- a torn opening's stores are FF at each place of a byte that is not FF, of which there are one to three
 pub torn-stores : (s : Season) → AcceptedSeason s → (area : List ℕ) (l : Ledger) (place : ℕ) → opening s area ≡ Torn l place
     → (wipesIn (opened s area) ≡ map wipe (wipePlaces place (drop place area))) × (1 ≤ opened s area .count)
 torn-stores s v area l place e =
