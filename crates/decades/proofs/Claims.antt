@@ -1,10 +1,10 @@
 -- The proofs of `specs/Claims.antt`, in its order.
-use mathlib.Core.Path.{_≡_, refl, sym, ap₂}
+use mathlib.Core.Path.{_≡_, refl, sym, ap}
 use mathlib.Core.List.{List, [], _∷_, map}
 use Prim.Native.Nat.{ℕ}
 use native.Mathlib.Omega.{arith}
 use lib.ListN.{replicate}
-use Rattle.season.specs.Sheet.{Valid}
+use Rattle.season.specs.Sheet.{Within, Valid}
 use Rattle.season.specs.Calendar.{nextDay, daysOn}
 use Rattle.season.specs.Rules.{ramp, rampZ}
 use Rattle.season.specs.Day.{dateOf, kcOf, cropNeed, rainOn}
@@ -17,12 +17,12 @@ use Rattle.decades.specs.Claims.{Claims}
 use Rattle.decades.proofs.Count.{rows-at-most, count-within}
 use Rattle.decades.proofs.Answers.{refused-unaltered, numbers-one-to-one}
 
-onion-valid : Valid onion
+onion-valid : (february : ℕ) → Within 28 29 february → Valid (onion february)
 unfolding onion
-onion-valid = record {
+onion-valid february w = record {
   ranges = record {
     month = omega arith;
-    first = omega arith;
+    first = record { low≤ = omega arith; ≤high = omega (arith, w .low≤) };
     initial = omega arith;
     development = omega arith;
     middle = omega arith;
@@ -39,15 +39,20 @@ onion-valid = record {
     efficiency = omega arith;
     opening = omega arith;
     turns = omega arith;
+    february = w;
   };
   year = omega arith;
   roots = omega arith;
 }
 
 -- Its rows, by the dates of its first and last day.
-onion-rows : rowCount onion ≡ 29
+onion-rows : rowCount (onion 28) ≡ 29
 unfolding onion dayOf dateOf daysOn nextDay
-onion-rows = sym (count-within onion onion-valid (dayOf onion 275) refl (omega arith))
+onion-rows = sym (count-within (onion 28) (onion-valid 28 (omega arith)) (dayOf (onion 28) 275) refl (omega arith))
+
+onion-leap : rowCount (onion 29) ≡ 28
+unfolding onion dayOf dateOf daysOn nextDay
+onion-leap = sym (count-within (onion 29) (onion-valid 29 (omega arith)) (dayOf (onion 29) 275) refl (omega arith))
 
 abbrev lefts : List (List ℕ × List ℕ) → List (List ℕ)
 lefts = map (λ (c : List ℕ × List ℕ). c .0)
@@ -61,7 +66,7 @@ buffers-hold = refl
 
 edges-hold : lefts edges ≡ rights edges
 unfolding edges
-edges-hold = ap₂ (λ (n : ℕ) (rest : List (List ℕ)). (n ∷ []) ∷ rest) onion-rows buffers-hold
+edges-hold = rw (onion-rows, onion-leap) (ap (λ (rest : List (List ℕ)). (29 ∷ 28 ∷ []) ∷ rest) buffers-hold)
 
 pub claims : Claims
 claims = record {

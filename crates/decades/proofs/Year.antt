@@ -9,10 +9,11 @@ use lib.Dec.{T, leb, eqb, leb→le, eqb→eq}
 use lib.ListN.{getD}
 use borrow.Author.Tests.{le-leb, lt-leb, lt-ltb, eq-eqb, ne-eqb, eqb-true}
 use Rattle.season.specs.declared.Date.{Date}
+use Rattle.season.specs.Sheet.{Within}
 use Rattle.season.specs.Calendar.{lengths, monthDays, dateIs, nextDay, Proper}
 use Rattle.season.proofs.Each.{both, both-left, both-right}
 use Rattle.season.proofs.Whole.{by-order}
-use Rattle.season.proofs.Calendar.{days-low, days-high, next-in, next-over}
+use Rattle.season.proofs.Calendar.{by-february, days-low, days-high, next-in, next-over}
 use Rattle.decades.specs.Table.{decadeOf, sameDecade}
 use Rattle.decades.specs.OpenRow.{decadeEnd}
 
@@ -28,27 +29,19 @@ below f (suc n) t k h =
     (λ p. let e : n ≡ k = omega arith in rw e at (both-left (f n) (upTo f n) t))
     (λ p. below f n (both-right (f n) (upTo f n) t) k p)
 
--- The days of the year before each month.
-abbrev pub starts : List ℕ
-starts = 0 ∷ 31 ∷ 59 ∷ 90 ∷ 120 ∷ 151 ∷ 181 ∷ 212 ∷ 243 ∷ 273 ∷ 304 ∷ 334 ∷ []
+-- The days of the year before each month, and of the whole year, where February has these days.
+abbrev pub starts : ℕ → List ℕ
+starts f = 0 ∷ 31 ∷ (31 + f) ∷ (62 + f) ∷ (92 + f) ∷ (123 + f) ∷ (153 + f) ∷ (184 + f) ∷ (215 + f) ∷ (245 + f) ∷ (276 + f) ∷ (306 + f) ∷ []
 
-abbrev pub offset : ℕ → ℕ
-offset m = getD starts (m - 1) 0
+abbrev pub yearDays : ℕ → ℕ
+yearDays f = 337 + f
 
-offset-next : (k : ℕ) → k < 11 → getD starts (k + 1) 0 ≡ getD starts k 0 + getD lengths k 0
-offset-next k h = eqb→eq _ _ (below (λ j. eqb (getD starts (j + 1) 0) (getD starts j 0 + getD lengths j 0)) 11 tt k h)
-
--- A month that begins before another ends before it begins.
-offset-order : (j k : ℕ) → j < k → k < 12 → getD starts j 0 + getD lengths j 0 ≤ getD starts k 0
-offset-order j k h l =
-    leb→le _ _ (below (λ i. leb (getD starts i 0 + getD lengths i 0) (getD starts k 0)) k (in-order k l) j h)
-  where
-    in-order : (k : ℕ) → k < 12 → T (upTo (λ i. leb (getD starts i 0 + getD lengths i 0) (getD starts k 0)) k)
-    in-order = below (λ k. upTo (λ i. leb (getD starts i 0 + getD lengths i 0) (getD starts k 0)) k) 12 tt
+abbrev pub offset : ℕ → ℕ → ℕ
+offset f m = getD (starts f) (m - 1) 0
 
 -- The day of the year from 0, and the decade of the year, the first being 4.
-abbrev pub yearDay : Date → ℕ
-yearDay t = offset (t .month) + t .day - 1
+abbrev pub yearDay : ℕ → Date → ℕ
+yearDay f t = offset f (t .month) + t .day - 1
 
 abbrev pub yearDecade : Date → ℕ
 yearDecade t = 3 * t .month + decadeOf (t .day)
@@ -90,17 +83,6 @@ decade-stays d k h =
     (λ q. let e : decadeEnd d ≡ 20 = rw (lt-leb d 10 p, le-leb d 20 q) in second-decade (d + k) (omega arith) (omega arith) ∙ sym (second-decade d p q))
     (λ q. third-decade (d + k) (omega arith) ∙ sym (third-decade d q)))
 
--- A later day of the year is of no earlier decade.
-pub year-order : (a b : Date) → Proper a → Proper b → yearDay a ≤ yearDay b → yearDecade a ≤ yearDecade b
-year-order a b p q h =
-    by-order (a .month) (b .month)
-    (λ l. by-order (b .month) (a .month)
-    (λ m. let e : a .month ≡ b .month = omega arith in
-    let o : offset (a .month) ≡ offset (b .month) = ap offset e in
-    omega (arith, decade-up (a .day) (b .day) (omega (arith, p .day-low, q .day-low))))
-    (λ m. absurd (omega (arith, offset-order (b .month - 1) (a .month - 1) (omega (arith, p .month-low, q .month-low)) (omega (arith, p .month-high)), q .day-high, p .day-low, q .day-low))))
-    (λ l. omega (arith, decade-within (a .day), decade-within (b .day)))
-
 -- The same month and decade.
 pub both-same : (month decade m d : ℕ) → sameDecade month decade m d ≡ true → (month ≡ m) × (decade ≡ d)
 both-same month decade m d e = go (eqb month m) refl
@@ -127,77 +109,102 @@ fresh-over : (m d n e : ℕ) → (m ≡ n → ⊥) → fresh (dateIs m d) (dateI
 fresh-over m d n e h = rw (ne-eqb m n h)
 
 -- From one day to the next: a day on in the year, or from its last to its first.
-unfoldable pub Next : Date → Date → Type 0
-Next t u = ((yearDay u ≡ yearDay t + 1) × (yearDecade u ≡ yearDecade t + fresh t u))
-    ⊎ ((yearDay t ≡ 364) × (yearDay u ≡ 0) × (yearDecade u + 36 ≡ yearDecade t + fresh t u))
+unfoldable pub Next : ℕ → Date → Date → Type 0
+Next f t u = ((yearDay f u ≡ yearDay f t + 1) × (yearDecade u ≡ yearDecade t + fresh t u))
+    ⊎ ((yearDay f t + 1 ≡ yearDays f) × (yearDay f u ≡ 0) × (yearDecade u + 36 ≡ yearDecade t + fresh t u))
 
-next-inside : (m d : ℕ) → 1 ≤ d → d < monthDays m → Next (dateIs m d) (nextDay (dateIs m d))
-unfolding Next
-next-inside m d h l =
-    rw (next-in m d l) (inl (omega arith, omega (arith, fresh-in m d (d + 1) (decade-next d))))
+module _ {february : ℕ} (range : Within 28 29 february) where
+  -- A test of each of the first n months, which antt computes at 28 and at 29.
+  each : (f : ℕ → ℕ → Bool) (n : ℕ) → T (upTo (f 28) n) → T (upTo (f 29) n) → (k : ℕ) → k < n → T (f february k)
+  each f n p q = below (f february) n (by-february (λ (days : ℕ). T (upTo (f days) n)) p q february range)
 
-next-year : Next (dateIs 12 31) (dateIs 1 1)
-unfolding Next
-next-year = inr (refl, refl, refl)
+  offset-next : (k : ℕ) → k < 11 → getD (starts february) (k + 1) 0 ≡ getD (starts february) k 0 + getD (lengths february) k 0
+  offset-next k h = eqb→eq _ _ (each (λ f j. eqb (getD (starts f) (j + 1) 0) (getD (starts f) j 0 + getD (lengths f) j 0)) 11 tt tt k h)
 
-next-month : (m d : ℕ) → 1 ≤ m → m < 12 → d ≡ monthDays m → Next (dateIs m d) (dateIs (m + 1) 1)
-unfolding Next
-next-month m d p l e =
-    let long : 20 < d = omega (arith, days-low m p (omega arith)) in
-    let k : m + 1 - 1 ≡ m - 1 + 1 = omega arith in
-    let o : offset (m + 1) ≡ offset m + monthDays m = ap (λ (j : ℕ). getD starts j 0) k ∙ offset-next (m - 1) (omega arith) in
-    let f : fresh (dateIs m d) (dateIs (m + 1) 1) ≡ 1 = fresh-over m d (m + 1) 1 (λ z. omega arith) in
-    inl (omega arith, omega (arith, third-decade d long))
+  -- A month that begins before another ends before it begins.
+  offset-order : (j k : ℕ) → j < k → k < 12 → getD (starts february) j 0 + getD (lengths february) j 0 ≤ getD (starts february) k 0
+  offset-order j k h l =
+      leb→le _ _ (below (λ i. leb (getD (starts february) i 0 + getD (lengths february) i 0) (getD (starts february) k 0)) k
+      (each (λ f n. upTo (λ i. leb (getD (starts f) i 0 + getD (lengths f) i 0) (getD (starts f) n 0)) n) 12 tt tt k l) j h)
 
-pub next : (t : Date) → Proper t → Next t (nextDay t)
-next t p =
-    by-order (t .day) (monthDays (t .month))
-    (λ h. let e : t .day ≡ monthDays (t .month) = omega (arith, p .day-high) in
-    by-order (t .month) 12
-    (λ l. let m : t .month ≡ 12 = omega (arith, p .month-high) in
-    let d : t .day ≡ 31 = e ∙ ap monthDays m in
-    let w : t ≡ dateIs 12 31 = (λ i. record { month = m i; day = d i }) in
-    rw w (rw (next-over 12 31 (omega arith)) next-year))
-    (λ l. rw (next-over (t .month) (t .day) h) (rw (lt-ltb (t .month) 12 l) (next-month (t .month) (t .day) (p .month-low) l e))))
-    (λ h. next-inside (t .month) (t .day) (p .day-low) h)
+  -- A later day of the year is of no earlier decade.
+  pub year-order : (a b : Date) → Proper february a → Proper february b → yearDay february a ≤ yearDay february b → yearDecade a ≤ yearDecade b
+  year-order a b p q h =
+      by-order (a .month) (b .month)
+      (λ l. by-order (b .month) (a .month)
+      (λ m. let e : a .month ≡ b .month = omega arith in
+      let o : offset february (a .month) ≡ offset february (b .month) = ap (offset february) e in
+      omega (arith, decade-up (a .day) (b .day) (omega (arith, p .day-low, q .day-low))))
+      (λ m. absurd (omega (arith, offset-order (b .month - 1) (a .month - 1) (omega (arith, p .month-low, q .month-low)) (omega (arith, p .month-high)), q .day-high, p .day-low, q .day-low))))
+      (λ l. omega (arith, decade-within (a .day), decade-within (b .day)))
 
-pub year-within : (t : Date) → Proper t → yearDay t < 365
-year-within t p =
-    let l : offset (t .month) + monthDays (t .month) ≤ 365 = leb→le _ _ (below (λ k. leb (getD starts k 0 + getD lengths k 0) 365) 12 tt (t .month - 1) (omega (arith, p .month-low, p .month-high))) in
-    omega (arith, p .day-low, p .day-high)
+  next-inside : (m d : ℕ) → 1 ≤ d → d < monthDays february m → Next february (dateIs m d) (nextDay february (dateIs m d))
+  unfolding Next
+  next-inside m d h l =
+      rw (next-in february m d l) (inl (omega arith, omega (arith, fresh-in m d (d + 1) (decade-next d))))
 
--- Dates are in the order of 32 × month + day.
-pub year-before : (a b : Date) → Proper a → Proper b → 32 * a .month + a .day < 32 * b .month + b .day → yearDay a < yearDay b
-year-before a b p q h =
-    by-order (b .month) (a .month)
-    (λ l. by-order (a .month) (b .month)
-    (λ m. let e : a .month ≡ b .month = omega arith in
-    let o : offset (a .month) ≡ offset (b .month) = ap offset e in
-    omega (arith, p .day-low))
-    (λ m. omega (arith, offset-order (a .month - 1) (b .month - 1) (omega (arith, p .month-low)) (omega (arith, q .month-high)), p .day-high, p .day-low, q .day-low)))
-    (λ l. absurd (omega (arith, days-high (b .month) (q .month-low) (q .month-high), q .day-high, p .day-low)))
+  next-year : Next february (dateIs 12 31) (dateIs 1 1)
+  unfolding Next
+  next-year = inr (omega arith, refl, refl)
 
-pub year-after : (a b : Date) → Proper a → Proper b → 32 * a .month + a .day ≤ 32 * b .month + b .day → yearDay a ≤ yearDay b
-year-after a b p q h =
-    by-order (32 * a .month + a .day) (32 * b .month + b .day)
-    (λ l. let m : a .month ≡ b .month = omega (arith, days-high (a .month) (p .month-low) (p .month-high), p .day-high, p .day-low, days-high (b .month) (q .month-low) (q .month-high), q .day-high, q .day-low) in
-    let o : offset (a .month) ≡ offset (b .month) = ap offset m in
-    omega arith)
-    (λ l. omega (arith, year-before a b p q l))
+  next-month : (m d : ℕ) → 1 ≤ m → m < 12 → d ≡ monthDays february m → Next february (dateIs m d) (dateIs (m + 1) 1)
+  unfolding Next
+  next-month m d p l e =
+      let long : 20 < d = omega (arith, days-low range m p (omega arith)) in
+      let k : m + 1 - 1 ≡ m - 1 + 1 = omega arith in
+      let o : offset february (m + 1) ≡ offset february m + monthDays february m = ap (λ (j : ℕ). getD (starts february) j 0) k ∙ offset-next (m - 1) (omega arith) in
+      let f : fresh (dateIs m d) (dateIs (m + 1) 1) ≡ 1 = fresh-over m d (m + 1) 1 (λ z. omega arith) in
+      inl (omega arith, omega (arith, third-decade d long))
 
--- A decade has ten days, give or take: the day of the year by the decades before it.
-month-slope : (k : ℕ) → k < 12 → (30 * k ≤ getD starts k 0 + 1) × (getD starts k 0 ≤ 30 * k + 4)
-month-slope k h = (
-  leb→le (30 * k) (getD starts k 0 + 1) (below (λ j. leb (30 * j) (getD starts j 0 + 1)) 12 tt k h),
-  leb→le (getD starts k 0) (30 * k + 4) (below (λ j. leb (getD starts j 0) (30 * j + 4)) 12 tt k h),
-)
+  pub next : (t : Date) → Proper february t → Next february t (nextDay february t)
+  next t p =
+      by-order (t .day) (monthDays february (t .month))
+      (λ h. let e : t .day ≡ monthDays february (t .month) = omega (arith, p .day-high) in
+      by-order (t .month) 12
+      (λ l. let m : t .month ≡ 12 = omega (arith, p .month-high) in
+      let d : t .day ≡ 31 = e ∙ ap (monthDays february) m in
+      let w : t ≡ dateIs 12 31 = (λ i. record { month = m i; day = d i }) in
+      rw w (rw (next-over february 12 31 (omega arith)) next-year))
+      (λ l. rw (next-over february (t .month) (t .day) h) (rw (lt-ltb (t .month) 12 l) (next-month (t .month) (t .day) (p .month-low) l e))))
+      (λ h. next-inside (t .month) (t .day) (p .day-low) h)
 
-pub year-slope : (t : Date) → Proper t → (10 * yearDecade t ≤ yearDay t + 41) × (yearDay t + 40 ≤ 10 * yearDecade t + 14)
-year-slope t p =
-    let m = month-slope (t .month - 1) (omega (arith, p .month-low, p .month-high)) in
-    let high = days-high (t .month) (p .month-low) (p .month-high) in
-    by-order 10 (t .day)
-    (λ h. omega (arith, first-decade (t .day) h, p .month-low, p .day-low))
-    (λ h. by-order 20 (t .day)
-    (λ l. omega (arith, second-decade (t .day) h l, p .month-low))
-    (λ l. omega (arith, third-decade (t .day) l, p .month-low, p .day-high)))
+  pub year-within : (t : Date) → Proper february t → yearDay february t < yearDays february
+  year-within t p =
+      let l : offset february (t .month) + monthDays february (t .month) ≤ yearDays february = leb→le _ _ (each (λ f k. leb (getD (starts f) k 0 + getD (lengths f) k 0) (yearDays f)) 12 tt tt (t .month - 1) (omega (arith, p .month-low, p .month-high))) in
+      omega (arith, p .day-low, p .day-high)
+
+  -- Dates are in the order of 32 × month + day.
+  pub year-before : (a b : Date) → Proper february a → Proper february b → 32 * a .month + a .day < 32 * b .month + b .day → yearDay february a < yearDay february b
+  year-before a b p q h =
+      by-order (b .month) (a .month)
+      (λ l. by-order (a .month) (b .month)
+      (λ m. let e : a .month ≡ b .month = omega arith in
+      let o : offset february (a .month) ≡ offset february (b .month) = ap (offset february) e in
+      omega (arith, p .day-low))
+      (λ m. omega (arith, offset-order (a .month - 1) (b .month - 1) (omega (arith, p .month-low)) (omega (arith, q .month-high)), p .day-high, p .day-low, q .day-low)))
+      (λ l. absurd (omega (arith, days-high range (b .month) (q .month-low) (q .month-high), q .day-high, p .day-low)))
+
+  pub year-after : (a b : Date) → Proper february a → Proper february b → 32 * a .month + a .day ≤ 32 * b .month + b .day → yearDay february a ≤ yearDay february b
+  year-after a b p q h =
+      by-order (32 * a .month + a .day) (32 * b .month + b .day)
+      (λ l. let m : a .month ≡ b .month = omega (arith, days-high range (a .month) (p .month-low) (p .month-high), p .day-high, p .day-low, days-high range (b .month) (q .month-low) (q .month-high), q .day-high, q .day-low) in
+      let o : offset february (a .month) ≡ offset february (b .month) = ap (offset february) m in
+      omega arith)
+      (λ l. omega (arith, year-before a b p q l))
+
+  -- A decade has ten days, give or take: the day of the year by the decades before it.
+  month-slope : (k : ℕ) → k < 12 → (30 * k + february ≤ getD (starts february) k 0 + 29) × (getD (starts february) k 0 + 24 ≤ 30 * k + february)
+  month-slope k h = (
+    leb→le _ _ (each (λ f j. leb (30 * j + f) (getD (starts f) j 0 + 29)) 12 tt tt k h),
+    leb→le _ _ (each (λ f j. leb (getD (starts f) j 0 + 24) (30 * j + f)) 12 tt tt k h),
+  )
+
+  pub year-slope : (t : Date) → Proper february t → (10 * yearDecade t + february ≤ yearDay february t + 69) × (yearDay february t + 54 ≤ 10 * yearDecade t + february)
+  year-slope t p =
+      let m = month-slope (t .month - 1) (omega (arith, p .month-low, p .month-high)) in
+      let high = days-high range (t .month) (p .month-low) (p .month-high) in
+      by-order 10 (t .day)
+      (λ h. omega (arith, first-decade (t .day) h, p .month-low, p .day-low))
+      (λ h. by-order 20 (t .day)
+      (λ l. omega (arith, second-decade (t .day) h l, p .month-low))
+      (λ l. omega (arith, third-decade (t .day) l, p .month-low, p .day-high)))

@@ -8,9 +8,10 @@ use Rattle.season.specs.SmallSheet.{small}
 use Rattle.decades.specs.Table.{numbersOf, rowCount, tabled}
 use Rattle.decades.specs.declared.Tabled.{Tabled}
 
--- The seed onion of FAO's stage table, 275 days, from 20 February to 21 November: each end is the edge of a decade.
-unfoldable pub onion : Season
-onion =
+-- The seed onion of FAO's stage table, 275 days, from 20 February, which has these days, to 21 November: each end is the edge of a decade. Where
+-- February has 29 it ends on 20 November.
+unfoldable pub onion : ℕ → Season
+onion february =
     record {
       month = 2;
       first = 20;
@@ -30,6 +31,7 @@ onion =
       efficiency = 75;
       opening = 0;
       turns = 127;
+      february = february;
     }
 
 -- An answer's numbers, and then the lent buffer.
@@ -49,5 +51,5 @@ buffers =
 unfoldable pub edges : List (List ℕ × List ℕ)
 edges =
     -- the most rows
-    (rowCount onion ∷ [], 29 ∷ [])
+    (rowCount (onion 28) ∷ rowCount (onion 29) ∷ [], 29 ∷ 28 ∷ [])
     ∷ buffers

@@ -68,7 +68,7 @@ along-more k a b c p q = record {
 }
 
 -- the dates and the stage go on
-on-dates : (s : Season) (i : ℕ) (t : Date) → Ranged s → i ≤ seasonDays s → t .day < monthDays (t .month) → 0 < slopeOf s i .left → Along 1 (onDate s i t) (onDate s (i + 1) (dateIs (t .month) (t .day + 1)))
+on-dates : (s : Season) (i : ℕ) (t : Date) → Ranged s → i ≤ seasonDays s → t .day < monthDays (s .february) (t .month) → 0 < slopeOf s i .left → Along 1 (onDate s i t) (onDate s (i + 1) (dateIs (t .month) (t .day + 1)))
 on-dates s i t r to h m =
     let n = slope-next s i r to m in
     let e = etoIn s (t .month) in
@@ -98,8 +98,8 @@ module _ (s : Season) (r : Ranged s) where
   unfolding dayOf
   along-one i d l =
       let t = dateOf s i in
-      let more : t .day < monthDays (t .month) = omega arith in
-      subst (λ (u : Date). Along 1 (onDate s i t) (onDate s (i + 1) u)) (sym (date-next s i (d .from) ∙ next-in (t .month) (t .day) more))
+      let more : t .day < monthDays (s .february) (t .month) = omega arith in
+      subst (λ (u : Date). Along 1 (onDate s i t) (onDate s (i + 1) u)) (sym (date-next s i (d .from) ∙ next-in (s .february) (t .month) (t .day) more))
       (on-dates s i t r (d .to) more (omega arith))
 
   along-days : (i k : ℕ) → DayOf s i → k ≤ dayOf s i .left → Along k (dayOf s i) (dayOf s (i + k))
@@ -170,7 +170,7 @@ module _ {s : Season} {t : SeasonDay} (v : Valid s) (o : OnDay s t) where
   unfolding dayOf
   left-few =
       let p = date-proper s (t .number) v in
-      rw (ap (λ (d : SeasonDay). d .left) (o .is)) (omega (arith, p .day-low, days-high _ (p .month-low) (p .month-high)))
+      rw (ap (λ (d : SeasonDay). d .left) (o .is)) (omega (arith, p .day-low, days-high (v .ranges .february) _ (p .month-low) (p .month-high)))
 
   rise-small : natAbs (t .rise) ≤ 300000
   unfolding dayOf

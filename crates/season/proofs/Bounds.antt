@@ -35,7 +35,7 @@ first-root s r =
     ∙ root-growing (s .sowing) (s .full) g 1 (omega (arith, r .initial .low≤, r .development .low≤))
 
 -- the day that a season day is stands in the calendar
-pub start-proper : (s : Season) → Valid s → Proper (dateIs (s .month) (s .first))
+pub start-proper : (s : Season) → Valid s → Proper (s .february) (dateIs (s .month) (s .first))
 start-proper s v = record {
   month-low = v .ranges .month .low≤;
   month-high = v .ranges .month .≤high;
@@ -43,9 +43,9 @@ start-proper s v = record {
   day-high = v .ranges .first .≤high;
 }
 
-pub date-proper : (s : Season) (i : ℕ) → Valid s → Proper (dateOf s i)
+pub date-proper : (s : Season) (i : ℕ) → Valid s → Proper (s .february) (dateOf s i)
 unfolding dateOf
-date-proper s i v = on-proper _ (i - 1) (start-proper s v)
+date-proper s i v = on-proper (v .ranges .february) _ (i - 1) (start-proper s v)
 
 -- a reciprocal is no more than the scale and one, and times a small number it fits 64 bits
 reciprocal-le : (d : ℕ) → reciprocal d ≤ 17592186044417
@@ -106,7 +106,7 @@ rain-le s i v =
     omega (
       arith,
       effective-le (getD (s .rain) (t .month - 1) 0) (v .ranges .rain _),
-      part-le (effectiveRain (getD (s .rain) (t .month - 1) 0)) (t .day) (monthDays (t .month)) (omega (arith, days-low (t .month) (p .month-low) (p .month-high))) (p .day-high),
+      part-le (effectiveRain (getD (s .rain) (t .month - 1) 0)) (t .day) (monthDays (s .february) (t .month)) (omega (arith, days-low (v .ranges .february) (t .month) (p .month-low) (p .month-high))) (p .day-high),
     )
 
 pub total-some : (s : Season) (i : ℕ) → Valid s → 0 < totalOn s i

@@ -7,7 +7,7 @@ use Rattle.season.specs.declared.Season.{Season}
 use Rattle.season.specs.declared.Date.{Date}
 use Rattle.season.specs.declared.Slope.{Slope}
 use Rattle.season.specs.declared.SeasonDay.{SeasonDay}
-use Rattle.season.specs.Calendar.{monthDays, monthAfter, dateIs, nextDay, daysOn, Proper}
+use Rattle.season.specs.Calendar.{monthDays, monthAfter, dateIs, nextIn, nextDay, daysOn, Proper}
 use Rattle.season.specs.Sheet.{Valid, DayOf}
 use Rattle.season.specs.Rules.{rainTo, plannedRain}
 use Rattle.season.specs.Day.{etoIn, effectiveIn, dateOf, cropNeed, rainOn}
@@ -19,12 +19,12 @@ use Rattle.season.proofs.Calendar.{on-add, next-in, next-over, days-hig
 use Rattle.season.proofs.Bounds.{date-proper, effective-le, top-weighed, need-le}
 
 -- The date of the day after.
-pub date-next : (s : Season) (i : ℕ) → 1 ≤ i → dateOf s (i + 1) ≡ nextDay (dateOf s i)
+pub date-next : (s : Season) (i : ℕ) → 1 ≤ i → dateOf s (i + 1) ≡ nextDay (s .february) (dateOf s i)
 unfolding dateOf daysOn
 date-next s i h =
     let start = dateIs (s .month) (s .first) in
     let e : i + 1 - 1 ≡ (i - 1) + 1 = omega arith in
-    ap (daysOn start) e ∙ on-add start (i - 1) 1
+    ap (daysOn (s .february) start) e ∙ on-add (s .february) start (i - 1) 1
 
 pub on-number : (s : Season) (i : ℕ) → dayOf s i .number ≡ i
 unfolding dayOf
@@ -53,12 +53,12 @@ module _ {s : Season} {t : SeasonDay} (v : Valid s) (o : OnDay s t) where
   unfolding dayOf
   day-date = (ap (λ (d : SeasonDay). d .month) (o .is), ap (λ (d : SeasonDay). d .day) (o .is))
 
-  pub day-proper : Proper (dateIs (t .month) (t .day))
+  pub day-proper : Proper (s .february) (dateIs (t .month) (t .day))
   day-proper = rw (day-date .0, day-date .1) (date-proper s (t .number) v)
 
-  pub length-is : t .length ≡ monthDays (t .month)
+  pub length-is : t .length ≡ monthDays (s .february) (t .month)
   unfolding dayOf
-  length-is = ap (λ (d : SeasonDay). d .length) (o .is) ∙ ap monthDays (sym (day-date .0))
+  length-is = ap (λ (d : SeasonDay). d .length) (o .is) ∙ ap (monthDays (s .february)) (sym (day-date .0))
 
   effective-at-most : t .effective ≤ 25000
   unfolding dayOf
@@ -68,7 +68,7 @@ module _ {s : Season} {t : SeasonDay} (v : Valid s) (o : OnDay s t) where
   pub day-small : (1 ≤ t .day) × (t .day ≤ t .length) × (t .length ≤ 31)
   day-small =
       let p = day-proper in
-      (p .day-low, rw length-is (p .day-high), rw length-is (days-high _ (p .month-low) (p .month-high)))
+      (p .day-low, rw length-is (p .day-high), rw length-is (days-high (v .ranges .february) _ (p .month-low) (p .month-high)))
 
   -- Planned rain by the day's own numbers.
   pub rain-is : plannedRain (t .effective) (t .day) (t .length) ≡ rainOn s (t .number)
@@ -165,17 +165,22 @@ module _ {s : Season} {t : SeasonDay} (v : Valid s) (o : OnDay s t) where
 
   -- ---- the day after
 
-  pub after : (d : Date) → nextDay (dateIs (t .month) (t .day)) ≡ d → onDate s (t .number + 1) d ≡ dayOf s (t .number + 1)
+  -- By the day's own length.
+  pub next-is : nextIn (t .length) (dateIs (t .month) (t .day)) ≡ nextDay (s .february) (dateIs (t .month) (t .day))
+  unfolding nextDay
+  next-is = ap (λ (n : ℕ). nextIn n (dateIs (t .month) (t .day))) length-is
+
+  pub after : (d : Date) → nextDay (s .february) (dateIs (t .month) (t .day)) ≡ d → onDate s (t .number + 1) d ≡ dayOf s (t .number + 1)
   unfolding dayOf
   after d e =
       ap (onDate s (t .number + 1))
-      (sym e ∙ ap nextDay (λ i. record { month = day-date .0 i; day = day-date .1 i }) ∙ sym (date-next s (t .number) (o .of .from)))
+      (sym e ∙ ap (nextDay (s .february)) (λ i. record { month = day-date .0 i; day = day-date .1 i }) ∙ sym (date-next s (t .number) (o .of .from)))
 
   -- Inside a month: the date is a day on, and the month's numbers stay.
   pub next-inside : t .day < t .length → OnInMonth t (dayOf s (t .number + 1))
   next-inside h =
-      subst (OnInMonth t) (after (dateIs (t .month) (t .day + 1)) (next-in _ _ (rw (← length-is) h)))
+      subst (OnInMonth t) (after (dateIs (t .month) (t .day + 1)) (next-in (s .february) _ _ (rw (← length-is) h)))
       (record { month = refl; day = refl; length = sym length-is; effective = sym effective-is })
 
   pub next-month : t .length ≤ t .day → onDate s (t .number + 1) (dateIs (monthAfter (t .month)) 1) ≡ dayOf s (t .number + 1)
-  next-month h = after (dateIs (monthAfter (t .month)) 1) (next-over _ _ (rw (← length-is) h))
+  next-month h = after (dateIs (monthAfter (t .month)) 1) (next-over (s .february) _ _ (rw (← length-is) h))

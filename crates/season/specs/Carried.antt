@@ -64,13 +64,13 @@ onDate s i t =
       number = i;
       month = t .month;
       day = t .day;
-      length = monthDays (t .month);
+      length = monthDays (s .february) (t .month);
       effective = effectiveIn s (t .month);
-      left = min (monthDays (t .month) - t .day) (slopeOf s i .left);
+      left = min (monthDays (s .february) (t .month) - t .day) (slopeOf s i .left);
       top = etoIn s (t .month) * slopeOf s i .top + 50 * slopeOf s i .bottom;
       rise = pos (etoIn s (t .month)) *ℤ slopeOf s i .rise;
       reciprocal = reciprocal (100 * slopeOf s i .bottom);
-      «rain_per_day» = effectiveIn s (t .month) * reciprocal (monthDays (t .month));
+      «rain_per_day» = effectiveIn s (t .month) * reciprocal (monthDays (s .february) (t .month));
       «growth_per_day» = growthPerDay s;
     }
 

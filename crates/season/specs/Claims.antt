@@ -4,15 +4,19 @@ use Prim.Native.Nat.{ℕ, _+_, _-_, _*_, _≤_, _<_}
 use lib.IntN.{pos}
 use Rattle.season.specs.declared.Season.{Season}
 use Rattle.season.specs.declared.Net.{Net}
-use Rattle.season.specs.Sheet.{Valid, DayOf}
+use Rattle.season.specs.Calendar.{monthDays}
+use Rattle.season.specs.Sheet.{Within, Valid, DayOf}
 use Rattle.season.specs.Rules.{rampZ, ramp, nearest}
 use Rattle.season.specs.Day.{cropNeed, rainOn, totalOn, readyOn}
 use Rattle.season.specs.Closing.{closeDay}
 use Rattle.season.specs.Loss.{lossOf}
 use Rattle.season.specs.Depths.{grossOf}
-use Rattle.season.specs.SmallSheet.{small}
+use Rattle.season.specs.SmallSheet.{small, leap}
 
 pub record Claims : Type 0 where
+  -- February has the days that are given, and no other month is changed by them.
+  pub february-days : (f : ℕ) → monthDays f 2 ≡ f
+  pub other-months : (f g m : ℕ) → (m ≡ 2 → ⊥) → monthDays f m ≡ monthDays g m
   -- The difference of coefficients may be negative, Kp × L + k × (Kn − Kp) never is.
   pub kc-never-negative : (kp kn l k : ℕ) → k ≤ l → pos (ramp kp kn l k) ≡ rampZ kp kn l k
   -- Rounding is to the nearest point, a half going up.
@@ -41,5 +45,7 @@ pub record Claims : Type 0 where
   pub half-met : (u : ℕ) → 0 < u → lossOf 100 (2 * u) u ≡ 5000
   -- The gross depth is the smallest that gives the net depth at the efficiency.
   pub gross-is-ceiling : (e : ℕ) (net : Net) → 1 ≤ e → (net .0 * 100 ≤ grossOf e net .0 * e) × (grossOf e net .0 * e < net .0 * 100 + e)
-  -- The ranges are met: by the small sheet, whatever its turns.
+  -- The ranges are met: by the small sheet, whatever its turns,
   pub small-valid : (turns : ℕ) → turns ≤ 127 → Valid (small turns)
+  -- and by the leap sheet, whether February has 28 days or 29.
+  pub leap-valid : (february : ℕ) → Within 28 29 february → Valid (leap february)

@@ -14,7 +14,7 @@ use Rattle.season.specs.declared.Stage.the-variants.{Initial, Developmen
 
 -- Day 1 is the start.
 unfoldable pub dateOf : Season → ℕ → Date
-dateOf s i = daysOn (dateIs (s .month) (s .first)) (i - 1)
+dateOf s i = daysOn (s .february) (dateIs (s .month) (s .first)) (i - 1)
 
 abbrev pub ratio : ℕ → ℕ → Kc
 ratio t b = record { top = t; bottom = b }
@@ -67,7 +67,7 @@ cropNeed s i = nearest (etoIn s (dateOf s i .month) * kcOf s i .top) (100 * kcOf
 
 -- Planned rain.
 unfoldable pub rainOn : Season → ℕ → ℕ
-rainOn s i = plannedRain (effectiveIn s (dateOf s i .month)) (dateOf s i .day) (monthDays (dateOf s i .month))
+rainOn s i = plannedRain (effectiveIn s (dateOf s i .month)) (dateOf s i .day) (monthDays (s .february) (dateOf s i .month))
 
 -- Root depth Z, total water T = A × Z, ready water R. G is field 3 + field 4.
 abbrev pub rootOn : Season → ℕ → ℕ

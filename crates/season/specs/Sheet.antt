@@ -10,10 +10,10 @@ pub record Within (low high x : ℕ) : Type 0 where
   pub low≤ : low ≤ x
   pub ≤high : x ≤ high
 
--- Fields 1 to 40, each within its range (refusal 4). A month past the twelfth reads 0, which is in range.
+-- Fields 1 to 41, each within its range (refusal 4). A month past the twelfth reads 0, which is in range.
 pub record Ranged (s : Season) : Type 0 where
   pub month : Within 1 12 (s .month)
-  pub first : Within 1 (monthDays (s .month)) (s .first)
+  pub first : Within 1 (monthDays (s .february) (s .month)) (s .first)
   pub initial : Within 1 200 (s .initial)
   pub development : Within 1 200 (s .development)
   pub middle : Within 1 200 (s .middle)
@@ -30,6 +30,7 @@ pub record Ranged (s : Season) : Type 0 where
   pub efficiency : Within 1 100 (s .efficiency)
   pub opening : s .opening ≤ 120000
   pub turns : s .turns ≤ 127
+  pub february : Within 28 29 (s .february)
 
 -- n, the days of the season, and the most that refusal 5 lets pass: 275 in place of document 01's 365 (request T-01).
 abbrev pub seasonDays : Season → ℕ

@@ -31,12 +31,12 @@ fn growth_per_day(s: Season) -> u64
 // whole season in memory.
 fn on_date(s: Season, number: u32, date: Date, growth: u64) -> SeasonDay
     requires { ⌜ Valid s ⌝ }
-    requires { ⌜ Proper date ⌝ }
+    requires { ⌜ Proper (s .february) date ⌝ }
     requires { ⌜ growth ≡ growthPerDay s ⌝ }
     ensures { λ r. ⌜ r ≡ onDate s number date ⌝ }
 {
     let at = (date.month - 1) as usize;
-    let length = month_days(date.month);
+    let length = month_days(s.february, date.month);
     let etos = s.eto;
     let rains = s.rain;
     let eto = etos[at];

@@ -36,7 +36,7 @@ pub const LONGEST_SEASON: usize = 275;
 
 // The numbers of a sheet, by name: fields 1 and 2 the start, 3 to 6 the stages, 7 to 9 the crop coefficients, 10 to 21 ETo and
 // 22 to 33 dependable rain by month, 34 available water A, 35 and 36 root depth Z0 and Zm, 37 depletion fraction p, 38 efficiency E,
-// 39 opening depletion, 40 turns.
+// 39 opening depletion, 40 turns, 41 the days of February.
 pub struct Season {
     pub month: u32,
     pub first: u32,
@@ -56,6 +56,7 @@ pub struct Season {
     pub efficiency: u32,
     pub opening: u32,
     pub turns: u32,
+    pub february: u32,
 }
 
 // A calendar day: the month and the day of the month, each from 1.

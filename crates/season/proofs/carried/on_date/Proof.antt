@@ -91,14 +91,14 @@ usual-reciprocal-of-requires-2 : tie.Need-usual-reciprocal-of-requires-2
 usual-reciprocal-of-requires-2 c κs =
     let at-month-days = c .before .before .before .before .before .before .before .before .before .before .before .before in
     let start = at-month-days .before .before in
-    rw (at-month-days .month-days .ensures) (omega (arith, days-low (start .args .date .month) (start .pre .1 .0 .month-low) (start .pre .1 .0 .month-high)))
+    rw (at-month-days .month-days .ensures) (omega (arith, days-low (start .pre .0 .ranges .february) (start .args .date .month) (start .pre .1 .0 .month-low) (start .pre .1 .0 .month-high)))
 
 mul-t28 : tie.Need-mul-t28
 mul-t28 c =
     let at-effective-rain = c .before .before .before .before .before .before .before .before .before .before in
     let at-month-days = at-effective-rain .before .before .before in
     let start = at-month-days .before .before in
-    record { fits = rw (at-effective-rain .effective-rain .ensures, c .usual-reciprocal-of2 .ensures, at-month-days .month-days .ensures) (rain-per-day-small _ _ (effective-le _ (start .pre .0 .ranges .rain _)) (days-low (start .args .date .month) (start .pre .1 .0 .month-low) (start .pre .1 .0 .month-high))) }
+    record { fits = rw (at-effective-rain .effective-rain .ensures, c .usual-reciprocal-of2 .ensures, at-month-days .month-days .ensures) (rain-per-day-small _ _ (effective-le _ (start .pre .0 .ranges .rain _)) (days-low (start .pre .0 .ranges .february) (start .args .date .month) (start .pre .1 .0 .month-low) (start .pre .1 .0 .month-high))) }
 
 returns : tie.Need-returns
 returns c =

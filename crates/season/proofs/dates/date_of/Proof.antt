@@ -8,10 +8,10 @@ use Rattle.season.proofs.dates.date_of.Statement.{statement}
 use Rattle.season.proofs.dates.date_of.Tie as tie
 
 abbrev Inv-loop : tie.InvT-loop
-Inv-loop day month₀ left₀ length₀ month left length = Walk month₀ left₀ month left length
+Inv-loop day february month₀ left₀ length₀ month left length = Walk february month₀ left₀ month left length
 
 abbrev μ-loop : tie.MeasureT-loop
-μ-loop day month₀ left₀ length₀ month left length = left
+μ-loop day february month₀ left₀ length₀ month left length = left
 
 sub-left : tie.Need-sub-left Inv-loop μ-loop
 sub-left c = search needs
@@ -20,7 +20,7 @@ add-left : tie.Need-add-left Inv-loop μ-loop
 add-left c =
     let s = c .before .args .s in
     let v = c .before .pre .0 in
-    record { fits = omega (arith, days-high (s .month) (v .ranges .month .low≤) (v .ranges .month .≤high)) }
+    record { fits = omega (arith, days-high (v .ranges .february) (s .month) (v .ranges .month .low≤) (v .ranges .month .≤high)) }
 
 month-days-requires : tie.Need-month-days-requires Inv-loop μ-loop
 month-days-requires c κs = search needs
@@ -41,12 +41,15 @@ month-days-requires-2 c κs = rw (c .month-after .ensures) (after-low (c .before
 
 loop-less : tie.Need-loop-less Inv-loop μ-loop
 loop-less c =
-    let w = c .before .before .before .loop .inv in
-    omega (arith, days-low (c .before .before .before .loop .month) (w .low) (w .high))
+    let at-loop = c .before .before .before in
+    let v = at-loop .before .before .before .pre .0 in
+    let w = at-loop .loop .inv in
+    omega (arith, days-low (v .ranges .february) (at-loop .loop .month) (w .low) (w .high))
 
 loop-again : tie.Need-loop-again Inv-loop μ-loop
 loop-again c =
-    walk-step _ _ _ _ _ _ _ (c .before .before .before .loop .inv) (c .before .before .loop-test .taken) (c .before .month-after .ensures) (c .month-days2 .ensures)
+    let v = c .before .before .before .before .before .before .pre .0 in
+    walk-step (v .ranges .february) _ _ _ _ _ _ _ (c .before .before .before .loop .inv) (c .before .before .loop-test .taken) (c .before .month-after .ensures) (c .month-days2 .ensures)
 
 returns : tie.Need-returns Inv-loop μ-loop
 unfolding dateOf
