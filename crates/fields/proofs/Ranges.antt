@@ -1,16 +1,16 @@
 -- Numbers of which none is outside its limits: each is within them, and the season that they make is in its ranges.
 use Prim.Native.Nat.{ℕ, zero, suc, _+_, _≤_, _<_}
 use mathlib.Core.Path.{_≡_, refl, sym, ap, _∙_}
-use mathlib.Core.Bool.{Bool, true, false, _||_, true≢false}
+use mathlib.Core.Bool.{Bool, true, false, cond, _||_, true≢false}
 use mathlib.Core.List.{List, [], _∷_}
 use native.Mathlib.Nat.{le-of-suc-le-suc, not-suc-le-zero}
 use native.Mathlib.Omega.{arith}
 use borrow.Author.Tests.{ltb-false}
-use lib.Dec.{T, ltb, lit<}
-use lib.ListN.{length, getD}
+use lib.Dec.{T, ltb, eqb, lit<}
+use lib.ListN.{length, getD, List·getD-eq-default}
 use Rattle.season.specs.Sheet.{Ranged, Within}
 use Rattle.fields.specs.declared.Limit.{Limit}
-use Rattle.fields.specs.Fields.{limits, outside, lowestOutside, seasonOf}
+use Rattle.fields.specs.Fields.{februaryOf, limits, outside, lowestOutside, seasonOf}
 use Rattle.fields.specs.Refusals.{fieldAtFault}
 use Rattle.fields.proofs.Lowest.{step-true, step-false}
 
@@ -56,16 +56,49 @@ up-to b [] u k = omega arith
 up-to b (x ∷ xs) u zero = u .0
 up-to b (x ∷ xs) u (suc k) = up-to b xs (u .1) k
 
--- The season of forty numbers of which none is at fault.
-module _ (f : List ℕ) (n : length f ≡ 40) (e : fieldAtFault f ≡ 0) where
-  pub field-inside : (k : ℕ) → k < 40 → Inside (getD (limits (getD f 0 0)) k (0, 0)) (getD f k 0)
-  field-inside k l = all-inside 0 (limits (getD f 0 0)) f e k l (omega arith)
+-- The limit of the field at place k.
+abbrev pub limitOf : List ℕ → ℕ → Limit
+limitOf f k = getD (limits (februaryOf f) (getD f 0 0)) k (0, 0)
 
-  at-most : (k : ℕ) → T (ltb k 40) → getD f k 0 ≤ getD (limits (getD f 0 0)) k (0, 0) .1
-  at-most k t = field-inside k (lit< t) .high
+pub field-inside : (f : List ℕ) → fieldAtFault f ≡ 0 → (k : ℕ) → k < 41 → k < length f → Inside (limitOf f k) (getD f k 0)
+field-inside f e = all-inside 0 (limits (februaryOf f) (getD f 0 0)) f e
 
-  within : (k : ℕ) → T (ltb k 40) → Within (getD (limits (getD f 0 0)) k (0, 0) .0) (getD (limits (getD f 0 0)) k (0, 0) .1) (getD f k 0)
-  within k t = let i = field-inside k (lit< t) in record { low≤ = i .low; ≤high = i .high }
+-- February's days are 28 or 29, whatever the numbers.
+pub february-within : (f : List ℕ) → Within 28 29 (februaryOf f)
+february-within f = go (eqb (getD f 40 0) 29)
+  where
+    go : (b : Bool) → Within 28 29 (cond b 29 28)
+    go true = record { low≤ = omega arith; ≤high = omega arith }
+    go false = record { low≤ = omega arith; ≤high = omega arith }
+
+-- The limits as the code gets them.
+pub limits-are : (f : List ℕ) (february : ℕ) (ls : List Limit) → february ≡ februaryOf f → ls ≡ limits february (getD f 0 0) → ls ≡ limits (februaryOf f) (getD f 0 0)
+limits-are f february ls e l = l ∙ ap (λ (d : ℕ). limits d (getD f 0 0)) e
+
+-- Forty numbers mean 28.
+pub february-plain : (f : List ℕ) → length f ≤ 40 → februaryOf f ≡ 28
+february-plain f n = let z : getD f 40 0 ≡ 0 = List·getD-eq-default f 0 {n = 40} n in rw z
+
+-- Where a forty-first is not at fault it is 29.
+pub forty-first : (f : List ℕ) → length f ≡ 41 → fieldAtFault f ≡ 0 → getD f 40 0 ≡ 29
+forty-first f n e = let i = field-inside f e 40 (omega arith) (omega arith) in omega (arith, i .low, i .high)
+
+pub february-leap : (f : List ℕ) → length f ≡ 41 → fieldAtFault f ≡ 0 → februaryOf f ≡ 29
+february-leap f n e = rw (forty-first f n e)
+
+-- The season of forty numbers or more of which none is at fault.
+module _ (f : List ℕ) (n : 40 ≤ length f) (e : fieldAtFault f ≡ 0) where
+  place : (k : ℕ) → T (ltb k 40) → Inside (limitOf f k) (getD f k 0)
+  place k t = field-inside f e k (omega (arith, below k t)) (omega (arith, below k t))
+    where
+      below : (k : ℕ) → T (ltb k 40) → k < 40
+      below k t = lit< t
+
+  at-most : (k : ℕ) → T (ltb k 40) → getD f k 0 ≤ limitOf f k .1
+  at-most k t = place k t .high
+
+  within : (k : ℕ) → T (ltb k 40) → Within (limitOf f k .0) (limitOf f k .1) (getD f k 0)
+  within k t = let i = place k t in record { low≤ = i .low; ≤high = i .high }
 
   pub season-ranged : Ranged (seasonOf f)
   season-ranged = record {
@@ -87,4 +120,5 @@ module _ (f : List ℕ) (n : length f ≡ 40) (e : fieldAtFault f ≡ 0) where
     efficiency = within 37 tt;
     opening = at-most 38 tt;
     turns = at-most 39 tt;
+    february = february-within f;
   }

@@ -1,4 +1,4 @@
--- Refusals 4 to 7 of forty numbers.
+-- Refusals 4 to 7 of a list of numbers.
 use Prim.Native.Nat.{ℕ, _≤_, _<_}
 use mathlib.Core.Path.{_≡_, sym, _∙_}
 use mathlib.Core.Bool.{Bool}
@@ -14,7 +14,7 @@ use Rattle.season.specs.declared.Season.{Season}
 use Rattle.verdict.specs.declared.Verdict.the-variants.{Accepted, Refused}
 use Rattle.verdict.specs.Refusals.{orRefused, firstOf}
 use Rattle.verdict.proofs.First.{Lines, first-holds, first-fails, accepted-fails}
-use Rattle.fields.specs.Fields.{limits, seasonOf}
+use Rattle.fields.specs.Fields.{februaryOf, limits, seasonOf}
 use Rattle.fields.specs.Refusals.{fieldAtFault, seasonLines, fieldLines, fieldsVerdict}
 use Rattle.fields.proofs.Lowest.{lowest-end}
 use Rattle.fields.proofs.Ranges.{season-ranged}
@@ -35,12 +35,12 @@ pub chain : (f : List ℕ) (s : Season) (n t : ℕ) (v₅ v₆ v₇ : Verdict) �
 chain f s n t v₅ v₆ v₇ z a b d e₅ e₆ e₇ =
     e₇ ∙ rw (e₆, e₅, d, b, a) (sym (no-fault f z))
 
--- What an accepted list of forty numbers is.
+-- What an accepted list of numbers is.
 pub record Sound (f : List ℕ) : Type 0 where
   pub no-field : fieldAtFault f ≡ 0
   pub season : AcceptedSeason (seasonOf f)
 
-pub accepted-sound : (f : List ℕ) → length f ≡ 40 → fieldsVerdict f ≡ Accepted → Sound f
+pub accepted-sound : (f : List ℕ) → 40 ≤ length f → fieldsVerdict f ≡ Accepted → Sound f
 unfolding fieldsVerdict
 accepted-sound f n e =
     let s = seasonOf f in
@@ -58,10 +58,10 @@ accepted-sound f n e =
     }
 
 -- What holds of 4 to 7 with a field's number or 0 holds of every line, and where it holds of the lines behind them, of all.
-pub field-lines : (P : ℕ → ℕ → Type 0) → ((number value : ℕ) → 4 ≤ number → number ≤ 7 → value ≤ 40 → P number value) → (f : List ℕ)
+pub field-lines : (P : ℕ → ℕ → Type 0) → ((number value : ℕ) → 4 ≤ number → number ≤ 7 → value ≤ 41 → P number value) → (f : List ℕ)
     → (behind : List (Bool × ℕ × ℕ)) → Lines P behind → Lines P (fieldLines f ++ behind)
 field-lines P h f behind b = (
-  h 4 (fieldAtFault f) (omega arith) (omega arith) (omega (arith, lowest-end 0 (limits (getD f 0 0)) f)),
+  h 4 (fieldAtFault f) (omega arith) (omega arith) (omega (arith, lowest-end 0 (limits (februaryOf f) (getD f 0 0)) f)),
   (season-line 5 (omega arith) (omega arith), (season-line 6 (omega arith) (omega arith), (season-line 7 (omega arith) (omega arith), b))),
 )
   where

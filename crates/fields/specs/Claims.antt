@@ -5,14 +5,17 @@ use mathlib.Core.List.{List}
 use lib.ListN.{length, getD}
 use Rattle.season.specs.Day.{AcceptedSeason}
 use Rattle.verdict.specs.declared.Verdict.the-variants.{Accepted, Refused}
-use Rattle.fields.specs.Fields.{limits, seasonOf}
+use Rattle.fields.specs.Fields.{februaryOf, limits, seasonOf}
 use Rattle.fields.specs.Refusals.{fieldsVerdict}
 
 pub record Claims : Type 0 where
-  -- Forty numbers that refusals 4 to 7 leave are each within their limits,
-  pub accepted-within : (f : List ℕ) → length f ≡ 40 → fieldsVerdict f ≡ Accepted
-      → (k : ℕ) → k < 40 → (getD (limits (getD f 0 0)) k (0, 0) .0 ≤ getD f k 0) × (getD f k 0 ≤ getD (limits (getD f 0 0)) k (0, 0) .1)
+  -- Forty or forty-one numbers that refusals 4 to 7 leave are each within their limits,
+  pub accepted-within : (f : List ℕ) → 40 ≤ length f → length f ≤ 41 → fieldsVerdict f ≡ Accepted → (k : ℕ) → k < length f
+      → (getD (limits (februaryOf f) (getD f 0 0)) k (0, 0) .0 ≤ getD f k 0) × (getD f k 0 ≤ getD (limits (februaryOf f) (getD f 0 0)) k (0, 0) .1)
   -- and their season is in its ranges, at most 275 days long, with Z0 at most Zm and an opening depletion of at most T on day 1.
-  pub accepted-season : (f : List ℕ) → length f ≡ 40 → fieldsVerdict f ≡ Accepted → AcceptedSeason (seasonOf f)
+  pub accepted-season : (f : List ℕ) → 40 ≤ length f → fieldsVerdict f ≡ Accepted → AcceptedSeason (seasonOf f)
+  -- Forty numbers mean a February of 28 days; a forty-first that is not refused, one of 29.
+  pub february-plain : (f : List ℕ) → length f ≡ 40 → seasonOf f .february ≡ 28
+  pub february-leap : (f : List ℕ) → length f ≡ 41 → fieldsVerdict f ≡ Accepted → seasonOf f .february ≡ 29
   -- A refusal is one of 4 to 7, with a field's number or 0.
-  pub refused-number : (f : List ℕ) (number value : ℕ) → fieldsVerdict f ≡ Refused number value → ((4 ≤ number) × (number ≤ 7)) × (value ≤ 40)
+  pub refused-number : (f : List ℕ) (number value : ℕ) → fieldsVerdict f ≡ Refused number value → ((4 ≤ number) × (number ≤ 7)) × (value ≤ 41)

@@ -2,31 +2,36 @@
 use Prim.Native.Nat.{ℕ, _+_}
 use mathlib.Core.Bool.{Bool, cond, _||_}
 use mathlib.Core.List.{List, [], _∷_, _++_}
-use lib.Dec.{ltb}
+use lib.Dec.{ltb, eqb}
 use lib.ListN.{getD, replicate}
 use Rattle.season.specs.Calendar.{monthDays}
 use Rattle.season.specs.declared.Season.{Season}
 use Rattle.fields.specs.declared.Limit.{Limit}
 
--- The lowest and the highest number of each field: 1; 2, which goes to the month's length; 3 to 6; 7 to 9; 10 to 21; 22 to 33; 34 to 40.
-abbrev pub limits : ℕ → List Limit
-limits month =
-    (1, 12) ∷ (1, monthDays month) ∷ (
+-- The days of February: 29 where a forty-first number says so, and else 28.
+abbrev pub februaryOf : List ℕ → ℕ
+februaryOf f = cond (eqb (getD f 40 0) 29) 29 28
+
+-- The lowest and the highest number of each field: 1; 2, which goes to the month's length; 3 to 6; 7 to 9; 10 to 21; 22 to 33; 34 to 41.
+abbrev pub limits : ℕ → ℕ → List Limit
+limits february month =
+    (1, 12) ∷ (1, monthDays february month) ∷ (
     replicate 4 (1, 200) ++ replicate 3 (10, 200) ++ replicate 12 (0, 1500) ++ replicate 12 (0, 60000)
-    ++ ((1, 400) ∷ (10, 300) ∷ (10, 300) ∷ (5, 80) ∷ (1, 100) ∷ (0, 120000) ∷ (0, 127) ∷ []))
+    ++ ((1, 400) ∷ (10, 300) ∷ (10, 300) ∷ (5, 80) ∷ (1, 100) ∷ (0, 120000) ∷ (0, 127) ∷ (29, 29) ∷ []))
 
 unfoldable pub outside : Limit → ℕ → Bool
 outside limit x = ltb x (limit .0) || ltb (limit .1) x
 
--- The lowest field outside its limits, the first having number i; 0 where none is.
+-- The lowest field outside its limits, the first having number i; 0 where none is. It ends with the shorter list: a sheet may have forty numbers or
+-- forty-one.
 unfoldable pub lowestOutside : ℕ → List Limit → List ℕ → ℕ
 lowestOutside i [] vs = 0
 lowestOutside i (l ∷ ls) [] = 0
 lowestOutside i (l ∷ ls) (v ∷ vs) = cond (outside l v) i (lowestOutside (i + 1) ls vs)
 
--- Field k, counted from 1, stands at place k - 1.
-abbrev pub seasonOf : List ℕ → Season
-seasonOf f = record {
+-- Field k, counted from 1, stands at place k - 1. February has these days.
+abbrev pub seasonIn : ℕ → List ℕ → Season
+seasonIn february f = record {
   month = getD f 0 0;
   first = getD f 1 0;
   initial = getD f 2 0;
@@ -45,4 +50,8 @@ seasonOf f = record {
   efficiency = getD f 37 0;
   opening = getD f 38 0;
   turns = getD f 39 0;
+  february = february;
 }
+
+abbrev pub seasonOf : List ℕ → Season
+seasonOf f = seasonIn (februaryOf f) f

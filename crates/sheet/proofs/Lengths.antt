@@ -1,34 +1,27 @@
 -- An accepted sheet's length: a byte for each number at least, and at most as many as the limits take, two fewer since n is at most 275.
 use Prim.Native.Nat.{ℕ, suc, _+_, _-_, _*_, _^_, _≤_, _<_}
-use mathlib.Core.Path.{_≡_, ap, _∙_}
+use mathlib.Core.Path.{_≡_}
 use mathlib.Core.List.{List, [], _∷_}
 use mathlib.Core.Logic.{inl, inr}
 use native.Mathlib.Omega.{arith}
-use lib.ListN.{length, drop, getD, length-append}
+use lib.ListN.{length, drop}
 use Rattle.verdict.specs.declared.Verdict.the-variants.{Accepted}
 use Rattle.leb128.specs.Claims.{Bytes}
-use Rattle.leb128.specs.Groups.{groupCount, overGroups, overIn, encode}
+use Rattle.leb128.specs.Groups.{groupCount, overGroups, overIn}
 use Rattle.leb128.proofs.Steps.{lt-or-le, count-last}
-use Rattle.leb128.proofs.Laws.{count-pos, count-le, count-lt, encode-length}
+use Rattle.leb128.proofs.Laws.{count-pos, count-le, count-lt}
 use Rattle.season.specs.Sheet.{seasonDays, longestSeason}
-use Rattle.season.specs.Calendar.{lengths}
-use Rattle.season.proofs.Each.{all-le}
+use Rattle.season.specs.Calendar.{monthDays}
 use Rattle.fields.specs.declared.Limit.{Limit}
 use Rattle.sheet.specs.Numbers.{numbersRead, written}
-use Rattle.fields.specs.Fields.{limits, lowestOutside, seasonOf}
+use Rattle.fields.specs.Fields.{februaryOf, limits, lowestOutside, seasonOf}
 use Rattle.fields.specs.Refusals.{fieldAtFault, fieldsVerdict}
 use Rattle.sheet.specs.Sheets.{sheetOf}
-use Rattle.fields.proofs.Ranges.{inside, none-outside}
+use Rattle.fields.proofs.Ranges.{inside, none-outside, february-within}
 use Rattle.fields.proofs.Verdicts.{accepted-sound}
+use Rattle.sheet.proofs.Laws.{length-written, written-at-least}
+use Rattle.sheet.proofs.ReadBack.{month-few}
 use Rattle.sheet.proofs.Accepted.{is-accepted}
-
-length-written : (v : ℕ) (vs : List ℕ) → length (written (v ∷ vs)) ≡ groupCount v + length (written vs)
-unfolding written
-length-written v vs = length-append (encode v) (written vs) ∙ ap (λ (n : ℕ). n + length (written vs)) (encode-length v)
-
-written-at-least : (vs : List ℕ) → length vs ≤ length (written vs)
-written-at-least [] = omega arith
-written-at-least (v ∷ vs) = omega (arith, length-written v vs, count-pos v, written-at-least vs)
 
 -- A smaller number takes no more groups.
 count-up : (v h : ℕ) → v ≤ h → groupCount v ≤ groupCount h
@@ -58,24 +51,26 @@ stage-most v h =
     elim (lt-or-le v 128) [ inl l ↦ omega (arith, count-last v l) | inr m ↦ omega (arith, count-le v 1 (omega arith)) ]
 
 -- Field by field to the stages' end, and the rest by their limits.
-written-at-most : (f : List ℕ) → length f ≡ 40 → fieldAtFault f ≡ 0 → seasonDays (seasonOf f) ≤ longestSeason → length (written f) ≤ 86
+written-at-most : (f : List ℕ) → 40 ≤ length f → length f ≤ 41 → fieldAtFault f ≡ 0 → seasonDays (seasonOf f) ≤ longestSeason → length (written f) ≤ 87
 unfolding most groupCount overGroups overIn
-written-at-most [] n e y = absurd (omega arith)
-written-at-most (a ∷ []) n e y = absurd (omega arith)
-written-at-most (a ∷ b ∷ []) n e y = absurd (omega arith)
-written-at-most (a ∷ b ∷ c ∷ []) n e y = absurd (omega arith)
-written-at-most (a ∷ b ∷ c ∷ d ∷ []) n e y = absurd (omega arith)
-written-at-most (a ∷ b ∷ c ∷ d ∷ g ∷ []) n e y = absurd (omega arith)
-written-at-most (a ∷ b ∷ c ∷ d ∷ g ∷ h ∷ rest) n e y =
-    let s₁ = none-outside 0 (1, 12) (drop 1 (limits a)) a (b ∷ c ∷ d ∷ g ∷ h ∷ rest) e in
-    let s₂ = none-outside 1 (1, getD lengths (a - 1) 0) (drop 2 (limits a)) b (c ∷ d ∷ g ∷ h ∷ rest) (s₁ .1) in
-    let s₃ = none-outside 2 (1, 200) (drop 3 (limits a)) c (d ∷ g ∷ h ∷ rest) (s₂ .1) in
-    let s₄ = none-outside 3 (1, 200) (drop 4 (limits a)) d (g ∷ h ∷ rest) (s₃ .1) in
-    let s₅ = none-outside 4 (1, 200) (drop 5 (limits a)) g (h ∷ rest) (s₄ .1) in
-    let s₆ = none-outside 5 (1, 200) (drop 6 (limits a)) h rest (s₅ .1) in
+written-at-most [] n o e y = absurd (omega arith)
+written-at-most (a ∷ []) n o e y = absurd (omega arith)
+written-at-most (a ∷ b ∷ []) n o e y = absurd (omega arith)
+written-at-most (a ∷ b ∷ c ∷ []) n o e y = absurd (omega arith)
+written-at-most (a ∷ b ∷ c ∷ d ∷ []) n o e y = absurd (omega arith)
+written-at-most (a ∷ b ∷ c ∷ d ∷ g ∷ []) n o e y = absurd (omega arith)
+written-at-most (a ∷ b ∷ c ∷ d ∷ g ∷ h ∷ rest) n o e y =
+    let f = a ∷ b ∷ c ∷ d ∷ g ∷ h ∷ rest in
+    let february = februaryOf f in
+    let s₁ = none-outside 0 (1, 12) (drop 1 (limits february a)) a (b ∷ c ∷ d ∷ g ∷ h ∷ rest) e in
+    let s₂ = none-outside 1 (1, monthDays february a) (drop 2 (limits february a)) b (c ∷ d ∷ g ∷ h ∷ rest) (s₁ .1) in
+    let s₃ = none-outside 2 (1, 200) (drop 3 (limits february a)) c (d ∷ g ∷ h ∷ rest) (s₂ .1) in
+    let s₄ = none-outside 3 (1, 200) (drop 4 (limits february a)) d (g ∷ h ∷ rest) (s₃ .1) in
+    let s₅ = none-outside 4 (1, 200) (drop 5 (limits february a)) g (h ∷ rest) (s₄ .1) in
+    let s₆ = none-outside 5 (1, 200) (drop 6 (limits february a)) h rest (s₅ .1) in
     let month : groupCount a ≡ 1 = count-last a (omega (arith, inside _ a (s₁ .0) .high)) in
-    let day : groupCount b ≡ 1 = count-last b (omega (arith, inside _ b (s₂ .0) .high, all-le 31 lengths tt (a - 1))) in
-    let behind : length (written rest) ≤ 78 = written-most 6 (drop 6 (limits a)) rest (omega arith) (s₆ .1) in
+    let day : groupCount b ≡ 1 = count-last b (omega (arith, inside _ b (s₂ .0) .high, month-few february a (february-within f))) in
+    let behind : length (written rest) ≤ 79 = written-most 6 (drop 6 (limits february a)) rest (omega arith) (s₆ .1) in
     omega (
       arith,
       length-written a (b ∷ c ∷ d ∷ g ∷ h ∷ rest),
@@ -93,13 +88,13 @@ written-at-most (a ∷ b ∷ c ∷ d ∷ g ∷ h ∷ rest) n e y =
       behind,
     )
 
--- Forty numbers that refusals 4 to 7 leave.
-pub written-length : (f : List ℕ) → length f ≡ 40 → fieldsVerdict f ≡ Accepted → (40 ≤ length (written f)) × (length (written f) ≤ 86)
-written-length f n a =
+-- Numbers that refusals 4 to 7 leave.
+pub written-length : (f : List ℕ) → 40 ≤ length f → length f ≤ 41 → fieldsVerdict f ≡ Accepted → (40 ≤ length (written f)) × (length (written f) ≤ 87)
+written-length f n m a =
     let s = accepted-sound f n a in
-    (omega (arith, written-at-least f), written-at-most f n (s .no-field) (s .season .valid .year))
+    (omega (arith, written-at-least f), written-at-most f n m (s .no-field) (s .season .valid .year))
 
-pub accepted-length : (b : List ℕ) → Bytes b → sheetOf b .verdict ≡ Accepted → (40 ≤ length b) × (length b ≤ 86)
+pub accepted-length : (b : List ℕ) → Bytes b → sheetOf b .verdict ≡ Accepted → (40 ≤ length b) × (length b ≤ 87)
 accepted-length b bytes e =
     let a = is-accepted b e in
-    rw (a .as-written bytes) (written-length (numbersRead b .fields) (a .count) (a .verdict))
+    rw (a .as-written bytes) (written-length (numbersRead b .fields) (a .count .0) (a .count .1) (a .verdict))

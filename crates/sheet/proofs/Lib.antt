@@ -1,4 +1,6 @@
 pub mod Runs
+pub mod Laws
+pub mod Further
 pub mod Verdicts
 pub mod ReadBack
 pub mod Accepted

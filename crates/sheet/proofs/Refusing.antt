@@ -15,11 +15,11 @@ use Rattle.verdict.specs.declared.Verdict.{Verdict}
 use Rattle.verdict.specs.declared.Verdict.the-variants.{Accepted, Refused}
 use Rattle.verdict.specs.Refusals.{orRefused, firstOf}
 use Rattle.verdict.proofs.First.{first-append, first-refused}
-use Rattle.sheet.specs.Numbers.{Run, run, stop, before, numbers, none, ended, numbersRead}
+use Rattle.sheet.specs.Numbers.{Run, run, stop, before, numbers, numbersAre, none, after, further, ended, numbersIn, numbersRead}
 use Rattle.fields.specs.Fields.{seasonOf}
 use Rattle.fields.specs.Refusals.{fieldLines, fieldsVerdict}
 use Rattle.sheet.specs.Sheets.{onlyAccepted, judged, sheetOf}
-use Rattle.sheet.specs.Refusals.{First, offends, ends, whole, comesFirst, byteLines, sheetLines}
+use Rattle.sheet.specs.Refusals.{First, offends, ends, whole, comesFirst, goesOn, byteLines, sheetLines}
 use Rattle.sheet.proofs.Runs.{numbers-whole, numbers-short, numbers-bad}
 
 -- ---- one number
@@ -64,59 +64,107 @@ module _ (count at : ℕ) (t : List ℕ) where
 
 -- ---- a run of numbers
 
--- What refusals 1 to 3 say of a run of numbers, and of what comes first.
-abbrev runVerdict : ℕ → Run → Verdict
-runVerdict size (run vs at) = cond (ltb at size) (Refused 3 at) Accepted
-runVerdict size (stop number place) = Refused number place
+-- What refusals 1 and 2 say of a run of numbers, and of what comes first; where neither applies, what is said of the place behind the numbers.
+abbrev runThen : ℕ → (ℕ → Verdict) → Run → Verdict
+runThen size behind (run vs at) = behind at
+runThen size behind (stop number place) = Refused number place
 
-abbrev firstVerdict : ℕ → First → Verdict
-firstVerdict size (offends place) = Refused 2 place
-firstVerdict size ends = Refused 1 size
-firstVerdict size (whole at) = cond (ltb at size) (Refused 3 at) Accepted
+abbrev firstThen : ℕ → (ℕ → Verdict) → First → Verdict
+firstThen size behind (offends place) = Refused 2 place
+firstThen size behind ends = Refused 1 size
+firstThen size behind (whole at) = behind at
 
-run-before : (size v : ℕ) (r : Run) → runVerdict size (before v r) ≡ runVerdict size r
+run-before : (size : ℕ) (behind : ℕ → Verdict) (v : ℕ) (r : Run) → runThen size behind (before v r) ≡ runThen size behind r
 unfolding before
-run-before size v (run vs at) = refl
-run-before size v (stop number place) = refl
+run-before size behind v (run vs at) = refl
+run-before size behind v (stop number place) = refl
 
-module _ (t : List ℕ) where
-  same-run : (count at : ℕ) → runVerdict (length t) (numbers count at t) ≡ firstVerdict (length t) (comesFirst count at 0 (drop at t))
+run-after : (size : ℕ) (behind : ℕ → Verdict) (vs : List ℕ) (r : Run) → runThen size behind (after vs r) ≡ runThen size behind r
+unfolding after
+run-after size behind vs (run ws at) = refl
+run-after size behind vs (stop number place) = refl
+
+module _ (t : List ℕ) (behind : ℕ → Verdict) where
+  same-run : (count at : ℕ) → runThen (length t) behind (numbers count at t) ≡ firstThen (length t) behind (comesFirst count at 0 (drop at t))
   unfolding numbers comesFirst decode
   same-run zero at = refl
   same-run (suc count) at =
       by-number (decode (drop at t)) refl (same-run count)
     where
       by-number : (d : Number) → decode (drop at t) ≡ d
-          → ((n : ℕ) → runVerdict (length t) (numbers count n t) ≡ firstVerdict (length t) (comesFirst count n 0 (drop n t)))
-          → runVerdict (length t) (numbers (suc count) at t) ≡ firstVerdict (length t) (comesFirst (suc count) at 0 (drop at t))
+          → ((n : ℕ) → runThen (length t) behind (numbers count n t) ≡ firstThen (length t) behind (comesFirst count n 0 (drop n t)))
+          → runThen (length t) behind (numbers (suc count) at t) ≡ firstThen (length t) behind (comesFirst (suc count) at 0 (drop at t))
       by-number (Whole v n) e ih =
-          ap (runVerdict (length t)) (numbers-whole count at t v n e) ∙ run-before (length t) v (numbers count (at + n) t) ∙ ih (at + n)
-          ∙ ap (firstVerdict (length t)) (sym (by-bytes count at t 0 at (drop at t) (omega arith) refl ∙ ap (afterNumber count at t) e))
+          ap (runThen (length t) behind) (numbers-whole count at t v n e) ∙ run-before (length t) behind v (numbers count (at + n) t) ∙ ih (at + n)
+          ∙ ap (firstThen (length t) behind) (sym (by-bytes count at t 0 at (drop at t) (omega arith) refl ∙ ap (afterNumber count at t) e))
       by-number Short e ih =
-          ap (runVerdict (length t)) (numbers-short count at t e)
-          ∙ ap (firstVerdict (length t)) (sym (by-bytes count at t 0 at (drop at t) (omega arith) refl ∙ ap (afterNumber count at t) e))
+          ap (runThen (length t) behind) (numbers-short count at t e)
+          ∙ ap (firstThen (length t) behind) (sym (by-bytes count at t 0 at (drop at t) (omega arith) refl ∙ ap (afterNumber count at t) e))
       by-number (Bad p) e ih =
-          ap (runVerdict (length t)) (numbers-bad count at t p e)
-          ∙ ap (firstVerdict (length t)) (sym (by-bytes count at t 0 at (drop at t) (omega arith) refl ∙ ap (afterNumber count at t) e))
+          ap (runThen (length t) behind) (numbers-bad count at t p e)
+          ∙ ap (firstThen (length t) behind) (sym (by-bytes count at t 0 at (drop at t) (omega arith) refl ∙ ap (afterNumber count at t) e))
 
-ended-verdict : (b : List ℕ) (r : Run) → ended b r .verdict ≡ runVerdict (length b) r
+-- ---- and further numbers
+
+module _ (b : List ℕ) (extra : ℕ) (behind : ℕ → Verdict) where
+  -- What is said of the place behind the first run: of the numbers from there on, where bytes follow.
+  abbrev runOn : ℕ → Verdict
+  runOn at = cond (ltb at (length b)) (runThen (length b) behind (numbers extra at b)) (behind at)
+
+  abbrev firstOn : ℕ → Verdict
+  firstOn at = cond (ltb at (length b)) (firstThen (length b) behind (comesFirst extra at 0 (drop at b))) (behind at)
+
+  run-further : (r : Run) → runThen (length b) behind (further extra b r) ≡ runThen (length b) runOn r
+  unfolding further
+  run-further (stop number place) = refl
+  run-further (run vs at) = go (ltb at (length b))
+    where
+      go : (t : Bool) → runThen (length b) behind (elim t [ true ↦ after vs (numbers extra at b) | false ↦ run vs at ]) ≡ cond t (runThen (length b) behind (numbers extra at b)) (behind at)
+      go true = run-after (length b) behind vs (numbers extra at b)
+      go false = refl
+
+  first-further : (f : First) → firstThen (length b) behind (goesOn extra b f) ≡ firstThen (length b) firstOn f
+  first-further (offends place) = refl
+  first-further ends = refl
+  first-further (whole at) = go (ltb at (length b))
+    where
+      go : (t : Bool) → firstThen (length b) behind (cond t (comesFirst extra at 0 (drop at b)) (whole at)) ≡ cond t (firstThen (length b) behind (comesFirst extra at 0 (drop at b))) (behind at)
+      go true = refl
+      go false = refl
+
+  on-same : runOn ≡ firstOn
+  on-same = λ i at. cond (ltb at (length b)) (same-run b behind extra at i) (behind at)
+
+  same-further : (least : ℕ) → runThen (length b) behind (further extra b (numbers least 0 b)) ≡ firstThen (length b) behind (goesOn extra b (comesFirst least 0 0 b))
+  same-further least =
+      run-further (numbers least 0 b) ∙ ap (λ (k : ℕ → Verdict). runThen (length b) k (numbers least 0 b)) on-same
+      ∙ same-run b firstOn least 0 ∙ sym (first-further (comesFirst least 0 0 b))
+
+-- ---- and refusal 3
+
+abbrev extraVerdict : ℕ → ℕ → Verdict
+extraVerdict size at = cond (ltb at size) (Refused 3 at) Accepted
+
+ended-verdict : (least : ℕ) (b : List ℕ) (r : Run) → ended least b r .verdict ≡ runThen (length b) (extraVerdict (length b)) r
 unfolding ended
-ended-verdict b (stop number place) = refl
-ended-verdict b (run vs at) = go (ltb at (length b))
+ended-verdict least b (stop number place) = refl
+ended-verdict least b (run vs at) = go (ltb at (length b))
   where
-    go : (t : Bool) → cond t (none 3 at) (record { fields = vs; verdict = Accepted }) .verdict ≡ cond t (Refused 3 at) Accepted
+    go : (t : Bool) → cond t (none least 3 at) (numbersAre vs Accepted) .verdict ≡ cond t (Refused 3 at) Accepted
     go true = refl
     go false = refl
 
-first-lines : (size : ℕ) (first : First) → firstVerdict size first ≡ firstOf Accepted (byteLines size first)
+first-lines : (size : ℕ) (first : First) → firstThen size (extraVerdict size) first ≡ firstOf Accepted (byteLines size first)
 unfolding orRefused
 first-lines size (offends place) = refl
 first-lines size ends = refl
 first-lines size (whole at) = refl
 
-numbers-verdict : (b : List ℕ) → numbersRead b .verdict ≡ firstOf Accepted (byteLines (length b) (comesFirst 40 0 0 b))
-unfolding numbersRead
-numbers-verdict b = ended-verdict b (numbers 40 0 b) ∙ same-run b 40 0 ∙ first-lines (length b) (comesFirst 40 0 0 b)
+numbers-verdict : (b : List ℕ) → numbersRead b .verdict ≡ firstOf Accepted (byteLines (length b) (goesOn 1 b (comesFirst 40 0 0 b)))
+unfolding numbersIn
+numbers-verdict b =
+    ended-verdict 40 b (further 1 b (numbers 40 0 b)) ∙ same-further b 1 (extraVerdict (length b)) 40
+    ∙ first-lines (length b) (goesOn 1 b (comesFirst 40 0 0 b))
 
 -- ---- all seven
 
@@ -134,4 +182,4 @@ unfolding sheetOf
 refuses-first b =
     judged-verdict (numbersRead b .fields) (numbersRead b .verdict)
     ∙ ap (λ (v : Verdict). firstOf v (fieldLines (numbersRead b .fields))) (numbers-verdict b)
-    ∙ sym (first-append Accepted (byteLines (length b) (comesFirst 40 0 0 b)) (fieldLines (numbersRead b .fields)))
+    ∙ sym (first-append Accepted (byteLines (length b) (goesOn 1 b (comesFirst 40 0 0 b))) (fieldLines (numbersRead b .fields)))

@@ -1,17 +1,15 @@
--- Runs of numbers, read one after another.
+-- Runs of numbers, read one after another, whatever their count.
 use Prim.Native.Nat.{ℕ, suc, _+_, _-_, _≤_, _<_}
 use mathlib.Core.Path.{_≡_, refl, sym, ap, _∙_}
 use mathlib.Core.List.{List, [], _∷_, _++_}
 use native.Mathlib.Numerals.{add-one}
 use native.Mathlib.Omega.{arith}
-use borrow.Author.Tests.{lt-ltb, le-ltb}
 use lib.ListN.{length, take, drop, set, length-set, length-drop}
-use lib.Seq.{take-all, take-suc-set}
+use lib.Seq.{take-suc-set}
 use Rattle.leb128.specs.declared.Number.the-variants.{Whole, Short, Bad}
 use Rattle.leb128.specs.Forms.{decode}
 use Rattle.leb128.proofs.Laws.{reach-le}
-use Rattle.verdict.specs.declared.Verdict.the-variants.{Accepted}
-use Rattle.sheet.specs.Numbers.{Run, before, numbers, none, ended, numbersRead}
+use Rattle.sheet.specs.Numbers.{Run, before, numbers}
 
 pub numbers-whole : (k at : ℕ) (s : List ℕ) (v n : ℕ) → decode (drop at s) ≡ Whole v n → numbers (suc k) at s ≡ before v (numbers k (at + n) s)
 unfolding numbers
@@ -45,16 +43,17 @@ unfolding prepend before
 prepend-run [] at = refl
 prepend-run (w ∷ vs) at = ap (before w) (prepend-run vs at)
 
--- k numbers are read, which end before place at
-pub record SoFar (s fields : List ℕ) (at k : ℕ) : Type 0 where
+-- k numbers are read into a buffer of so many, which end before place at: however many are wanted, the others are those from there on.
+pub record SoFar (s : List ℕ) (count : ℕ) (fields : List ℕ) (at k : ℕ) : Type 0 where
   pub within : at ≤ length s
-  pub few : k ≤ 40
-  pub whole : length fields ≡ 40
-  pub rest : numbers 40 0 s ≡ prepend (take k fields) (numbers (40 - k) at s)
+  pub few : k ≤ count
+  pub whole : length fields ≡ count
+  pub rest : (j : ℕ) → numbers (k + j) 0 s ≡ prepend (take k fields) (numbers j at s)
 
-pub start : (s fields : List ℕ) → length fields ≡ 40 → SoFar s fields 0 0
+pub start : (s fields : List ℕ) → SoFar s (length fields) fields 0 0
 unfolding prepend
-start s fields l = record { within = omega arith; few = omega arith; whole = l; rest = refl }
+start s fields =
+    record { within = omega arith; few = omega arith; whole = refl; rest = λ j. let e : 0 + j ≡ j = omega arith in ap (λ (n : ℕ). numbers n 0 s) e }
 
 pub reach-whole : (at : ℕ) (s : List ℕ) (v n : ℕ) → decode (drop at s) ≡ Whole v n → at ≤ length s → at + n ≤ length s
 reach-whole at s v n e h =
@@ -66,47 +65,35 @@ reach-bad at s p e h =
     let r : p + 1 ≤ length (drop at s) = rw e at (reach-le (drop at s)) in
     omega (arith, length-drop at s)
 
-module _ {s fields : List ℕ} {at k : ℕ} (h : SoFar s fields at k) where
-  one-left : k < 40 → 40 - k ≡ suc (40 - (k + 1))
-  one-left l = omega arith
-
-  pub at-whole : k < 40 → (v n : ℕ) → decode (drop at s) ≡ Whole v n → SoFar s (set fields k v) (at + n) (k + 1)
+module _ {s : List ℕ} {count : ℕ} {fields : List ℕ} {at k : ℕ} (h : SoFar s count fields at k) where
+  pub at-whole : k < count → (v n : ℕ) → decode (drop at s) ≡ Whole v n → SoFar s count (set fields k v) (at + n) (k + 1)
   at-whole l v n e =
       record {
         within = reach-whole at s v n e (h .within);
         few = omega arith;
         whole = length-set fields k v ∙ h .whole;
-        rest =
-            h .rest ∙ ap (λ (j : ℕ). prepend (take k fields) (numbers j at s)) (one-left l)
-            ∙ ap (prepend (take k fields)) (numbers-whole (40 - (k + 1)) at s v n e)
-            ∙ sym (prepend-last (take k fields) v (numbers (40 - (k + 1)) (at + n) s))
-            ∙ ap (λ (vs : List ℕ). prepend vs (numbers (40 - (k + 1)) (at + n) s)) (sym (take-suc-set fields k v (omega (arith, h .whole))) ∙ ap (λ (j : ℕ). take j (set fields k v)) (sym (add-one k)));
+        rest = λ j.
+            let one : k + 1 + j ≡ k + suc j = omega arith in
+            ap (λ (m : ℕ). numbers m 0 s) one ∙ h .rest (suc j) ∙ ap (prepend (take k fields)) (numbers-whole j at s v n e)
+            ∙ sym (prepend-last (take k fields) v (numbers j (at + n) s))
+            ∙ ap (λ (vs : List ℕ). prepend vs (numbers j (at + n) s)) (sym (take-suc-set fields k v (omega (arith, h .whole))) ∙ ap (λ (m : ℕ). take m (set fields k v)) (sym (add-one k)));
       }
 
-  stopped : k < 40 → (number place : ℕ) → numbers (suc (40 - (k + 1))) at s ≡ Run.stop number place → numbersRead s ≡ none number place
-  unfolding numbersRead ended
-  stopped l number place e =
-      ap (ended s)
-      (h .rest ∙ ap (λ (j : ℕ). prepend (take k fields) (numbers j at s)) (one-left l) ∙ ap (prepend (take k fields)) e
-      ∙ prepend-stop (take k fields) number place)
+  stopped : (n number place : ℕ) → k < n → ((j : ℕ) → numbers (suc j) at s ≡ Run.stop number place) → numbers n 0 s ≡ Run.stop number place
+  stopped n number place l e =
+      let j = n - (k + 1) in
+      let is : n ≡ k + suc j = omega arith in
+      ap (λ (m : ℕ). numbers m 0 s) is ∙ h .rest (suc j) ∙ ap (prepend (take k fields)) (e j) ∙ prepend-stop (take k fields) number place
 
-  pub at-short : k < 40 → decode (drop at s) ≡ Short → numbersRead s ≡ none 1 (length s)
-  at-short l e = stopped l 1 (length s) (numbers-short _ at s e)
+  pub at-short : (n : ℕ) → k < n → decode (drop at s) ≡ Short → numbers n 0 s ≡ Run.stop 1 (length s)
+  at-short n l e = stopped n 1 (length s) l (λ j. numbers-short j at s e)
 
-  pub at-bad : k < 40 → (p : ℕ) → decode (drop at s) ≡ Bad p → numbersRead s ≡ none 2 (at + p)
-  at-bad l p e = stopped l 2 (at + p) (numbers-bad _ at s p e)
+  pub at-bad : (n : ℕ) → k < n → (p : ℕ) → decode (drop at s) ≡ Bad p → numbers n 0 s ≡ Run.stop 2 (at + p)
+  at-bad n l p e = stopped n 2 (at + p) l (λ j. numbers-bad j at s p e)
 
-  all-read : 40 ≤ k → numbers 40 0 s ≡ Run.run fields at
+  -- The numbers so far.
+  pub so-far : numbers k 0 s ≡ Run.run (take k fields) at
   unfolding numbers
-  all-read l =
-      let e : k ≡ 40 = omega (arith, h .few) in
-      h .rest ∙ ap (λ (j : ℕ). prepend (take j fields) (numbers (40 - j) at s)) e
-      ∙ ap (λ (vs : List ℕ). prepend vs (Run.run [] at)) (take-all 40 fields (omega (arith, h .whole))) ∙ prepend-run fields at
-
-  pub at-more : 40 ≤ k → at < length s → numbersRead s ≡ none 3 at
-  unfolding numbersRead ended
-  at-more l m = ap (ended s) (all-read l) ∙ rw (lt-ltb at (length s) m, ended)
-
-  pub at-end : 40 ≤ k → length s ≤ at → numbersRead s ≡ record { fields = fields; verdict = Accepted }
-  unfolding numbersRead ended
-  at-end l m = ap (ended s) (all-read l) ∙ rw (le-ltb at (length s) m, ended)
+  so-far =
+      let none : k ≡ k + 0 = omega arith in
+      ap (λ (m : ℕ). numbers m 0 s) none ∙ h .rest 0 ∙ prepend-run (take k fields) at

@@ -1,7 +1,7 @@
--- Document 01, 'The season sheet': forty numbers, one after another; refusals 1 to 3.
+-- Document 01, 'The season sheet': forty numbers, one after another, and a forty-first where bytes follow them (document 02, T-06); refusals 1 to 3.
 use Prim.Native.Nat.{ℕ, zero, suc, _+_}
 use mathlib.Core.List.{List, [], _∷_, _++_}
-use mathlib.Core.Bool.{cond}
+use mathlib.Core.Bool.{true, false, cond}
 use lib.Dec.{ltb}
 use lib.ListN.{length, drop, replicate}
 use Rattle.leb128.specs.declared.Number.the-variants.{Whole, Short, Bad}
@@ -29,7 +29,17 @@ numbers (suc count) at s =
       | Bad p ↦ stop 2 (at + p)
     ]
 
--- A sheet's numbers, and what refusals 1 to 3 say of it.
+-- The values vs, and then a run's.
+unfoldable pub after : List ℕ → Run → Run
+after vs (run ws at) = run (vs ++ ws) at
+after vs (stop number place) = stop number place
+
+-- Where bytes follow a run they are read as `extra` numbers more.
+unfoldable pub further : ℕ → List ℕ → Run → Run
+further extra s (run vs at) = elim (ltb at (length s)) [ true ↦ after vs (numbers extra at s) | false ↦ run vs at ]
+further extra s (stop number place) = stop number place
+
+-- A sheet's numbers, as they stand, and what refusals 1 to 3 say of it.
 pub record Numbers : Type 0 where
   pub fields : List ℕ
   pub verdict : Verdict
@@ -37,18 +47,22 @@ pub record Numbers : Type 0 where
 abbrev pub numbersAre : List ℕ → Verdict → Numbers
 numbersAre f v = record { fields = f; verdict = v }
 
--- Refused by 1, 2 or 3: the numbers are all 0.
-abbrev pub none : ℕ → ℕ → Numbers
-none number value = numbersAre (replicate 40 0) (Refused number value)
+-- Refused by 1, 2 or 3: the least count of numbers, all 0.
+abbrev pub none : ℕ → ℕ → ℕ → Numbers
+none least number value = numbersAre (replicate least 0) (Refused number value)
 
 -- Refusal 3 has the first extra byte's place.
-unfoldable pub ended : List ℕ → Run → Numbers
-ended s (run vs at) = cond (ltb at (length s)) (none 3 at) (record { fields = vs; verdict = Accepted })
-ended s (stop number place) = none number place
+unfoldable pub ended : ℕ → List ℕ → Run → Numbers
+ended least s (run vs at) = cond (ltb at (length s)) (none least 3 at) (numbersAre vs Accepted)
+ended least s (stop number place) = none least number place
 
--- The forty numbers of a sheet, or the first of refusals 1 to 3.
-unfoldable pub numbersRead : List ℕ → Numbers
-numbersRead s = ended s (numbers 40 0 s)
+-- A least count of numbers, and where bytes follow them `extra` more.
+unfoldable pub numbersIn : ℕ → ℕ → List ℕ → Numbers
+numbersIn least extra s = ended least s (further extra s (numbers least 0 s))
+
+-- The forty or forty-one numbers of a sheet, or the first of refusals 1 to 3.
+abbrev pub numbersRead : List ℕ → Numbers
+numbersRead = numbersIn 40 1
 
 -- The sheet of some numbers.
 unfoldable pub written : List ℕ → List ℕ

@@ -1,10 +1,10 @@
 -- Document 01, 'Why the controller says no': refusals 1 to 7 of a sheet's bytes, read downward. A line is a test, the number, the number returned
 -- with it.
 use Prim.Native.Nat.{ℕ, zero, suc, _+_}
-use mathlib.Core.Bool.{Bool, true, false, _&&_}
+use mathlib.Core.Bool.{Bool, true, false, cond, _&&_}
 use mathlib.Core.List.{List, [], _∷_, _++_}
 use lib.Dec.{ltb, eqb}
-use lib.ListN.{length}
+use lib.ListN.{length, drop}
 use Rattle.sheet.specs.Numbers.{numbersRead}
 use Rattle.fields.specs.Refusals.{fieldLines}
 
@@ -26,7 +26,13 @@ comesFirst (suc count) at before (b ∷ s) =
       | false ↦ elim (ltb before 2) [ true ↦ comesFirst (suc count) (at + 1) (before + 1) s | false ↦ offends at ]
     ]
 
--- 1: the sheet ends before its fortieth number is whole; with its length.
+-- Where bytes follow the last number wanted, `extra` more are wanted from there on.
+abbrev pub goesOn : ℕ → List ℕ → First → First
+goesOn extra b (offends place) = offends place
+goesOn extra b ends = ends
+goesOn extra b (whole at) = cond (ltb at (length b)) (comesFirst extra at 0 (drop at b)) (whole at)
+
+-- 1: the sheet ends before its fortieth number is whole, or within a forty-first; with its length.
 abbrev pub endsLine : ℕ → First → Bool × ℕ × ℕ
 endsLine size (offends place) = (false, 1, 0)
 endsLine size ends = (true, 1, size)
@@ -38,7 +44,7 @@ offenceLine (offends place) = (true, 2, place)
 offenceLine ends = (false, 2, 0)
 offenceLine (whole at) = (false, 2, 0)
 
--- 3: bytes follow the fortieth number; with the first one's place.
+-- 3: bytes follow the last number; with the first one's place.
 abbrev pub extraLine : ℕ → First → Bool × ℕ × ℕ
 extraLine size (offends place) = (false, 3, 0)
 extraLine size ends = (false, 3, 0)
@@ -48,6 +54,6 @@ extraLine size (whole at) = (ltb at size, 3, at)
 abbrev pub byteLines : ℕ → First → List (Bool × ℕ × ℕ)
 byteLines size first = endsLine size first ∷ offenceLine first ∷ extraLine size first ∷ []
 
--- All seven; 4 to 7 are of the forty numbers.
+-- All seven; 4 to 7 are of the numbers.
 abbrev pub sheetLines : List ℕ → List (Bool × ℕ × ℕ)
-sheetLines b = byteLines (length b) (comesFirst 40 0 0 b) ++ fieldLines (numbersRead b .fields)
+sheetLines b = byteLines (length b) (goesOn 1 b (comesFirst 40 0 0 b)) ++ fieldLines (numbersRead b .fields)

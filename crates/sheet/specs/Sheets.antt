@@ -13,11 +13,11 @@ use Rattle.sheet.specs.Numbers.{numbersRead}
 abbrev pub sheetIs : Season → Verdict → Sheet
 sheetIs s v = record { season = s; verdict = v }
 
--- A refused sheet: its numbers are all 0.
+-- A refused sheet: its numbers are all 0, but for February's days, which are 28.
 abbrev pub refusal : ℕ → ℕ → Sheet
 refusal number value = record { season = seasonOf (replicate 40 0); verdict = Refused number value }
 
--- The season where the verdict accepts, and else one that is all 0.
+-- The season where the verdict accepts, and else that of a refused sheet.
 abbrev pub onlyAccepted : Season → Verdict → Sheet
 onlyAccepted s Accepted = record { season = s; verdict = Accepted }
 onlyAccepted s (Refused number value) = refusal number value

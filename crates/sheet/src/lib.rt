@@ -1,18 +1,19 @@
-// The season sheet (document 01): forty numbers one after another, and refusals 1 to 7; and the writer (document 02, T-02).
+// The season sheet (document 01): forty numbers one after another, or forty-one (document 02, T-06), and refusals 1 to 7; and the writer (T-02).
 use leb128::Number;
 use season::Season;
 use verdict::Verdict;
-ghost use Prim.Native.Nat.{_+_, _≤_};
+ghost use Prim.Native.Nat.{_+_, _-_, _≤_};
 ghost use mathlib.Core.Path.{_≡_};
 ghost use lib.ListN.{length};
 ghost use lib.Seq.{sets};
 ghost use Rattle.leb128.specs.Groups.{encode};
-ghost use Rattle.fields.specs.Fields.{seasonOf};
-ghost use Rattle.sheet.specs.Numbers.{numbersAre, none, numbersRead, written};
-ghost use Rattle.sheet.specs.Sheets.{sheetIs, sheetOf};
-ghost use Rattle.sheet.specs.Writing.{sheetWritten};
+ghost use Rattle.verdict.specs.declared.Verdict.the-variants.{Accepted};
+ghost use Rattle.sheet.specs.Numbers.{numbersIn, written};
+ghost use Rattle.sheet.specs.Reading.{numbersBy, countOf};
+ghost use Rattle.sheet.specs.Sheets.{refusal, judged, sheetOf};
+ghost use Rattle.sheet.specs.Writing.{fieldsWritten, sheetWritten};
 
-// A sheet's season, all 0 where the sheet is refused.
+// A sheet's season; where the sheet is refused it is all 0 but for February's days, which are 28.
 pub struct Sheet {
     pub season: Season,
     pub verdict: Verdict,
@@ -24,58 +25,74 @@ pub enum Written {
     Refused(u32, usize),
 }
 
+// What reading answers: how many numbers a sheet has, or a refusal.
+enum Reading {
+    Whole(usize),
+    Refused(u32, usize),
+}
+
 // Bytes that every sheet fits in.
-pub const MOST_BYTES: usize = 86;
+pub const MOST_BYTES: usize = 87;
 
 // ---- refusals 1 to 3
 
-// A refusal, and a lent buffer that is all 0.
-fn refuse(fields: &mut [u32; 40], number: u32, value: usize) -> Verdict
-    ensures { λ r. ⌜ numbersAre (now (fields .exit)) r ≡ none number value ⌝ }
-{
-    *fields = [0u32; 40];
-    Verdict::Refused(number, value)
-}
-
-// Puts the forty numbers of a sheet into a lent buffer, or gives the first of refusals 1 to 3 that applies, and all 0. (A reference does
-// not tell its array's length, so the `requires` here and below say it.)
-fn read_numbers(sheet: &[u8], fields: &mut [u32; 40]) -> Verdict
-    requires { ⌜ length (now fields) ≡ 40 ⌝ }
-    ensures { λ r. ⌜ numbersAre (now (fields .exit)) r ≡ numbersRead (now (sheet .entry)) ⌝ }
+// Puts the numbers of a sheet into a lent buffer, as many as it has or the least count where the sheet ends there, and says how many; or gives the
+// first of refusals 1 to 3 that applies. One loop for all of them: a second call of what reads a number would keep it from being inlined.
+fn read_numbers(sheet: &[u8], least: usize, fields: &mut [u32]) -> Reading
+    requires { ⌜ least ≤ length (now fields) ⌝ }
+    ensures { λ r. ⌜ (numbersBy least (now (fields .exit)) r ≡ numbersIn least (length (now (fields .entry)) - least) (now (sheet .entry)))
+        × (countOf r ≤ length (now (fields .entry))) ⌝ }
 {
     let mut at: usize = 0;
     let mut k: usize = 0;
-    while k < 40 {
+    while k < fields.len() {
         match leb128::read_at(sheet, at) {
             Number::Whole(value, length) => {
                 fields[k] = value;
                 at += length;
             }
-            Number::Short => return refuse(fields, 1, sheet.len()),
-            Number::Bad(place) => return refuse(fields, 2, at + place),
+            Number::Short => {
+                if k == least {
+                    if sheet.len() <= at {
+                        return Reading::Whole(k);
+                    }
+                }
+                return Reading::Refused(1, sheet.len());
+            }
+            Number::Bad(place) => return Reading::Refused(2, at + place),
         }
         k += 1;
     }
     if at < sheet.len() {
-        return refuse(fields, 3, at);
+        return Reading::Refused(3, at);
     }
-    Verdict::Accepted
+    Reading::Whole(k)
 }
 
 // ---- the sheet
 
-// Puts the forty numbers of a sheet into a lent buffer, or gives the first of refusals 1 to 7 that applies, and all 0.
-fn read_fields(sheet: &[u8], fields: &mut [u32; 40]) -> Verdict
-    requires { ⌜ length (now fields) ≡ 40 ⌝ }
-    ensures { λ r. ⌜ sheetIs (seasonOf (now (fields .exit))) r ≡ sheetOf (now (sheet .entry)) ⌝ }
+// A refused sheet.
+fn refused(number: u32, value: usize) -> Sheet
+    ensures { λ r. ⌜ r ≡ refusal number value ⌝ }
 {
-    match read_numbers(sheet, fields) {
-        Verdict::Refused(number, value) => return refuse(fields, number, value),
-        Verdict::Accepted => {}
+    let none = [0u32; 40];
+    Sheet {
+        season: fields::season_of(&none),
+        verdict: Verdict::Refused(number, value),
     }
+}
+
+// The season of forty or forty-one numbers, or the first of refusals 4 to 7 that applies.
+fn judge(fields: &[u32]) -> Sheet
+    requires { ⌜ (40 ≤ length (now fields)) × (length (now fields) ≤ 41) ⌝ }
+    ensures { λ r. ⌜ r ≡ judged (now (fields .entry)) Accepted ⌝ }
+{
     match fields::judge(fields) {
-        Verdict::Refused(number, value) => refuse(fields, number, value),
-        Verdict::Accepted => Verdict::Accepted,
+        Verdict::Refused(number, value) => refused(number, value),
+        Verdict::Accepted => Sheet {
+            season: fields::season_of(fields),
+            verdict: Verdict::Accepted,
+        },
     }
 }
 
@@ -83,10 +100,11 @@ fn read_fields(sheet: &[u8], fields: &mut [u32; 40]) -> Verdict
 pub fn read(sheet: &[u8]) -> Sheet
     ensures { λ r. ⌜ r ≡ sheetOf (now (sheet .entry)) ⌝ }
 {
-    let mut fields = [0u32; 40];
-    let verdict = read_fields(sheet, &mut fields);
-    let season = fields::season_of(&fields);
-    Sheet { season, verdict }
+    let mut fields = [0u32; 41];
+    match read_numbers(sheet, 40, &mut fields) {
+        Reading::Refused(number, value) => refused(number, value),
+        Reading::Whole(count) => judge(&fields[..count]),
+    }
 }
 
 // ---- the writer
@@ -122,23 +140,34 @@ fn put_numbers(bytes: &mut [u8], numbers: &[u32]) -> usize
     at
 }
 
-// The sheet of forty numbers, from the start of a lent buffer; bytes beyond it stay. Refusals 4 to 7, and 15, before a byte is stored there: a
-// buffer that every sheet fits in is written in place, and for any other the bytes are made in an array first.
-pub fn write(fields: [u32; 40], sheet: &mut [u8]) -> Written
-    ensures { λ r. ⌜ (r, now (sheet .exit)) ≡ sheetWritten fields (now (sheet .entry)) ⌝ }
+// The sheet of forty or forty-one numbers, from the start of a lent buffer; bytes beyond it stay. Refusals 4 to 7, and 15, before a byte is stored
+// there: a buffer that every sheet fits in is written in place, and for any other the bytes are made in an array first.
+fn write_fields(fields: &[u32], sheet: &mut [u8]) -> Written
+    requires { ⌜ (40 ≤ length (now fields)) × (length (now fields) ≤ 41) ⌝ }
+    ensures { λ r. ⌜ (r, now (sheet .exit)) ≡ fieldsWritten (now (fields .entry)) (now (sheet .entry)) ⌝ }
 {
-    match fields::judge(&fields) {
+    match fields::judge(fields) {
         Verdict::Refused(number, value) => return Written::Refused(number, value),
         Verdict::Accepted => {}
     }
     if MOST_BYTES <= sheet.len() {
-        return Written::Made(put_numbers(sheet, &fields));
+        return Written::Made(put_numbers(sheet, fields));
     }
     let mut made = [0u8; MOST_BYTES];
-    let count = put_numbers(&mut made, &fields);
+    let count = put_numbers(&mut made, fields);
     if sheet.len() < count {
         return Written::Refused(15, 0);
     }
     bytes::copy(&made[..count], sheet);
     Written::Made(count)
+}
+
+// The sheet of the tablet's forty-one numbers. A February of 28 days is left out.
+pub fn write(fields: [u32; 41], sheet: &mut [u8]) -> Written
+    ensures { λ r. ⌜ (r, now (sheet .exit)) ≡ sheetWritten fields (now (sheet .entry)) ⌝ }
+{
+    if fields[40] == 28 {
+        return write_fields(&fields[..40], sheet);
+    }
+    write_fields(&fields, sheet)
 }

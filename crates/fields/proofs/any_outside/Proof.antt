@@ -1,45 +1,50 @@
 -- `fields::any_outside` meets its contract: the loop is `Looked` of proofs/Lowest.antt.
+use Prim.Native.Nat.{_-_, _≤_, _<_}
+use native.Mathlib.Omega.{arith}
+use denote.Ref.{now}
+use lib.ListN.{length, getD}
+use Rattle.fields.specs.Fields.{februaryOf, limits}
+use Rattle.fields.proofs.Ranges.{limits-are}
+use Rattle.fields.proofs.Lowest.{Looked, look-start, look-on, look-end, look-last}
 use borrow.Author.Needs.{needs}
-use Prim.Native.Nat.{_-_}
-use mathlib.Core.Path.{refl}
-use lib.ListN.{getD}
-use Rattle.fields.specs.Fields.{limits}
-use Rattle.fields.proofs.Lowest.{Looked, look-start, look-on, look-end}
 use Rattle.fields.proofs.any_outside.Statement.{statement}
 use Rattle.fields.proofs.any_outside.Tie as tie
 
 abbrev Inv-loop : tie.InvT-loop
-Inv-loop fields by-field wrong₀ k₀ wrong k = Looked (limits (getD fields 0 0)) fields wrong k
+Inv-loop fields february by-field wrong₀ k₀ wrong k = Looked (limits (februaryOf fields) (getD fields 0 0)) fields wrong k × (k ≤ 40)
 
 abbrev μ-loop : tie.MeasureT-loop
-μ-loop fields by-field wrong₀ k₀ wrong k = 40 - k
+μ-loop fields february by-field wrong₀ k₀ wrong k = 40 - k
 
-element-copy-out-limits-of : tie.Need-element-copy-out-limits-of Inv-loop μ-loop
-element-copy-out-limits-of c = search needs
+february-of-requires : tie.Need-february-of-requires Inv-loop μ-loop
+february-of-requires c κs = search needs
+
+shared-slice-read-limits-of : tie.Need-shared-slice-read-limits-of Inv-loop μ-loop
+shared-slice-read-limits-of c = omega (arith, c .before .before .before .pre .0)
 
 limits-of-requires : tie.Need-limits-of-requires Inv-loop μ-loop
 limits-of-requires c κs = search needs
 
 loop-holds : tie.Need-loop-holds Inv-loop μ-loop
-loop-holds c = look-start _ _ refl (c .before .before .pre)
+loop-holds c = (look-start _ _ (c .before .before .before .before .pre .1), omega arith)
 
 mul-x : tie.Need-mul-x Inv-loop μ-loop
 mul-x c = search needs
 
-element-copy-out-x : tie.Need-element-copy-out-x Inv-loop μ-loop
-element-copy-out-x c = search needs
+shared-slice-read-x : tie.Need-shared-slice-read-x Inv-loop μ-loop
+shared-slice-read-x c = omega (arith, c .before .loop-test .taken, c .before .before .before .before .before .before .before .pre .0)
 
 mul-wrong : tie.Need-mul-wrong Inv-loop μ-loop
-mul-wrong c = search needs
+mul-wrong c = omega (arith, c .before .loop-test .taken, c .before .before .before .before .before .before .before .pre .1)
 
 element-copy-out-wrong : tie.Need-element-copy-out-wrong Inv-loop μ-loop
-element-copy-out-wrong c = search needs
+element-copy-out-wrong c = omega (arith, c .before .loop-test .taken, c .before .before .before .before .before .before .before .pre .1)
 
 mul-wrong-2 : tie.Need-mul-wrong-2 Inv-loop μ-loop
-mul-wrong-2 c = search needs
+mul-wrong-2 c = omega (arith, c .before .loop-test .taken, c .before .before .before .before .before .before .before .pre .1)
 
 element-copy-out-wrong-2 : tie.Need-element-copy-out-wrong-2 Inv-loop μ-loop
-element-copy-out-wrong-2 c = search needs
+element-copy-out-wrong-2 c = omega (arith, c .before .loop-test .taken, c .before .before .before .before .before .before .before .pre .1)
 
 add-k : tie.Need-add-k Inv-loop μ-loop
 add-k c = search needs
@@ -48,10 +53,36 @@ loop-less : tie.Need-loop-less Inv-loop μ-loop
 loop-less c = search needs
 
 loop-again : tie.Need-loop-again Inv-loop μ-loop
-loop-again c = rw (c .before .before .before .limits-of .ensures) (look-on (c .before .before .loop .inv) (c .before .loop-test .taken))
+loop-again c =
+    let at-loop = c .before .before in
+    let at-limits = at-loop .before in
+    let at-february = at-limits .before .before in
+    let f = now (at-february .before .before .args .fields) in
+    let few : at-loop .loop .k < length f = omega (arith, c .before .loop-test .taken, at-february .before .before .pre .0) in
+    (rw (limits-are f _ _ (at-february .february-of .ensures) (at-limits .limits-of .ensures)) (look-on (at-loop .loop .inv .0) few), omega (arith, c .before .loop-test .taken))
 
 returns : tie.Need-returns Inv-loop μ-loop
-returns c = look-end _ _ _ (c .before .loop .inv) (c .loop-test .left)
+returns c = look-end _ _ _ (c .before .before .loop .inv .0) (omega (arith, c .if1 .taken, c .before .loop-test .left))
+
+shared-slice-read-last : tie.Need-shared-slice-read-last Inv-loop μ-loop
+shared-slice-read-last c = search needs
+
+element-copy-out-result : tie.Need-element-copy-out-result Inv-loop μ-loop
+element-copy-out-result c = search needs
+
+element-copy-out-result-2 : tie.Need-element-copy-out-result-2 Inv-loop μ-loop
+element-copy-out-result-2 c = search needs
+
+returns-2 : tie.Need-returns-2 Inv-loop μ-loop
+returns-2 c =
+    let at-test = c .before .before in
+    let at-loop = at-test .before in
+    let at-limits = at-loop .before in
+    let at-february = at-limits .before .before in
+    let start = at-february .before .before in
+    let f = now (start .args .fields) in
+    rw (limits-are f _ _ (at-february .february-of .ensures) (at-limits .limits-of .ensures))
+    (look-last _ f _ _ 40 (at-loop .loop .inv .0) (omega (arith, at-loop .loop .inv .1, at-test .loop-test .left)) (c .before .if1 .left) (start .pre .1))
 
 pub any-outside-spec : {M : Type 1} → statement M
 any-outside-spec =
@@ -59,11 +90,12 @@ any-outside-spec =
     (tie.spec
     Inv-loop
     μ-loop
-    element-copy-out-limits-of
+    february-of-requires
+    shared-slice-read-limits-of
     limits-of-requires
     loop-holds
     mul-x
-    element-copy-out-x
+    shared-slice-read-x
     mul-wrong
     element-copy-out-wrong
     mul-wrong-2
@@ -71,4 +103,8 @@ any-outside-spec =
     add-k
     loop-less
     loop-again
-    returns)
+    returns
+    shared-slice-read-last
+    element-copy-out-result
+    element-copy-out-result-2
+    returns-2)

@@ -1,6 +1,7 @@
 -- `fields::judge` meets its contract: no field is at fault where the season is made, so it is in its ranges (proofs/Ranges.antt).
 use mathlib.Core.Path.{_≡_, sym, ap, _∙_}
 use native.Mathlib.Omega.{arith}
+use denote.Ref.{now}
 use borrow.Author.Tests.{ltb-true, ltb-false}
 use Rattle.fields.specs.Refusals.{fieldAtFault}
 use Rattle.fields.proofs.Ranges.{season-ranged}
@@ -20,22 +21,22 @@ lowest-outside-requires c κs = search needs
 returns : tie.Need-returns
 returns c =
     let t = c .before in
-    let f = t .before .before .args .fields .now in
+    let f = now (t .before .before .before .args .fields) in
     ap (Refused 4) (c .lowest-outside .ensures) ∙ sym (fault-refused f (ltb-true 0 (fieldAtFault f) (sym (t .before .any-outside .ensures) ∙ t .if1 .taken)))
 
 season-of-requires : tie.Need-season-of-requires
 season-of-requires c κs = search needs
 
 -- no field is at fault
-clear : (c : tie.Else1) → fieldAtFault (c .before .before .args .fields .now) ≡ 0
+clear : (c : tie.Else1) → fieldAtFault (now (c .before .before .before .args .fields)) ≡ 0
 clear c =
-    let f = c .before .before .args .fields .now in
+    let f = now (c .before .before .before .args .fields) in
     omega (arith, ltb-false 0 (fieldAtFault f) (sym (c .before .any-outside .ensures) ∙ c .if1 .left))
 
 ranged : (c : tie.After-season-of) → Ranged (c .season-of .result)
 ranged c =
-    let start = c .before .before .before in
-    rw (c .season-of .ensures) (season-ranged (start .args .fields .now) (start .pre) (clear (c .before)))
+    let start = c .before .before .before .before in
+    rw (c .season-of .ensures) (season-ranged (now (start .args .fields)) (start .pre .0) (clear (c .before)))
 
 season-days-requires : tie.Need-season-days-requires
 season-days-requires c κs = ranged c
@@ -59,7 +60,7 @@ returns-2 c =
     let water = first .before .before in
     let days = water .before .before in
     let of = days .before in
-    chain (of .before .before .before .args .fields .now) (of .season-of .result) (days .season-days .result) (water .first-total .result) _ _ _
+    chain (now (of .before .before .before .before .args .fields)) (of .season-of .result) (days .season-days .result) (water .first-total .result) _ _ _
     (clear (of .before)) (of .season-of .ensures) (days .season-days .ensures) (water .first-total .ensures)
     (first .or-refused .ensures) (second .or-refused2 .ensures) (c .or-refused3 .ensures)
 

@@ -1,21 +1,23 @@
--- The loop is `SoFar` of proofs/Runs.antt.
+-- The loop is `SoFar` of proofs/Runs.antt; what it comes to stands in proofs/Further.antt.
 use Prim.Native.Nat.{_-_}
-use borrow.Author.Needs.{needs}
-use native.Mathlib.Omega.{arith}
 use mathlib.Core.Path.{sym, _∙_}
+use native.Mathlib.Omega.{arith}
 use denote.Ref.{now}
-use Rattle.sheet.proofs.Runs.{SoFar, start, reach-whole, reach-bad, at-whole, at-short, at-bad, at-more, at-end}
+use lib.ListN.{length}
+use Rattle.sheet.proofs.Runs.{SoFar, start, reach-whole, reach-bad, at-whole}
+use Rattle.sheet.proofs.Further.{ends-at-least, short-in, bad-in, bytes-follow, all-read}
+use borrow.Author.Needs.{needs}
 use Rattle.sheet.proofs.read_numbers.Statement.{statement}
 use Rattle.sheet.proofs.read_numbers.Tie as tie
 
 abbrev Inv-loop : tie.InvT-loop
-Inv-loop sheet fields₀ at₀ k₀ fields at k = SoFar sheet fields at k
+Inv-loop sheet least fields₀ at₀ k₀ fields at k = SoFar sheet (length fields₀) fields at k
 
 abbrev μ-loop : tie.MeasureT-loop
-μ-loop sheet fields₀ at₀ k₀ fields at k = 40 - k
+μ-loop sheet least fields₀ at₀ k₀ fields at k = length fields₀ - k
 
 loop-holds : tie.Need-loop-holds Inv-loop μ-loop
-loop-holds c = start _ _ (c .before .pre)
+loop-holds c = start _ _
 
 read-at-requires : tie.Need-read-at-requires Inv-loop μ-loop
 read-at-requires c κs = search needs
@@ -24,81 +26,111 @@ enum-known-value : tie.Need-enum-known-value Inv-loop μ-loop
 enum-known-value c = search needs
 
 mul-fields : tie.Need-mul-fields Inv-loop μ-loop
-mul-fields c = omega arith
+mul-fields c = search needs
 
-element-write-fields : tie.Need-element-write-fields Inv-loop μ-loop
-element-write-fields c =
-    let at-loop-test = c .before .before .before .before in
-    at-loop-test .loop-test .taken
+slice-write-fields : tie.Need-slice-write-fields Inv-loop μ-loop
+slice-write-fields c = search needs
 
 add-at : tie.Need-add-at Inv-loop μ-loop
 add-at c =
-    let r = c .before .before .before in
-    let l = r .before .before in
-    omega (arith, reach-whole (l .loop .at) (now (l .before .before .args .sheet)) _ _ (sym (r .read-at .ensures) ∙ c .before .value .given .1) (l .loop .inv .within))
+    let at-read-at = c .before .before .before in
+    let at-loop = at-read-at .before .before in
+    omega (arith, reach-whole (at-loop .loop .at) (now (at-loop .before .before .before .args .sheet)) _ _ (sym (at-read-at .read-at .ensures) ∙ c .before .value .given .1) (at-loop .loop .inv .within))
 
 enum-told : tie.Need-enum-told Inv-loop μ-loop
 enum-told c = search needs
 
-refuse-requires : tie.Need-refuse-requires Inv-loop μ-loop
-refuse-requires c κs = search needs
+same-length : tie.Need-same-length Inv-loop μ-loop
+same-length c = c .before .before .before .before .before .before .loop .inv .whole
 
 returns : tie.Need-returns Inv-loop μ-loop
 returns c =
-    let at-enum-told = c .before .before in
-    let at-read-at = at-enum-told .before .before in
-    let at-loop-test = at-read-at .before in
-    let at-loop = at-loop-test .before in
-    c .refuse .ensures ∙ sym (at-short (at-loop .loop .inv) (at-loop-test .loop-test .taken) (sym (at-read-at .read-at .ensures) ∙ at-enum-told .enum-told .given .1))
+    let at-loop = c .before .before .before .before .before .before in
+    let w = at-loop .loop .inv in
+    (ends-at-least _ w (at-loop .before .before .before .pre) (c .before .if1 .taken) (c .if2 .taken), w .few)
+
+same-length-2 : tie.Need-same-length-2 Inv-loop μ-loop
+same-length-2 c = c .before .before .before .before .before .before .loop .inv .whole
+
+returns-2 : tie.Need-returns-2 Inv-loop μ-loop
+returns-2 c =
+    let at-told = c .before .before in
+    let at-read-at = at-told .before .before in
+    let at-test = at-read-at .before in
+    let at-loop = at-test .before in
+    let w = at-loop .loop .inv in (
+      short-in _ w (at-loop .before .before .before .pre) (omega (arith, at-test .loop-test .taken, w .whole)) (sym (at-read-at .read-at .ensures) ∙ at-told .enum-told .given .1) (λ e. c .if2 .left),
+      omega arith,
+    )
+
+same-length-3 : tie.Need-same-length-3 Inv-loop μ-loop
+same-length-3 c = c .before .before .before .before .before .loop .inv .whole
+
+returns-3 : tie.Need-returns-3 Inv-loop μ-loop
+returns-3 c =
+    let at-told = c .before in
+    let at-read-at = at-told .before .before in
+    let at-test = at-read-at .before in
+    let at-loop = at-test .before in
+    let w = at-loop .loop .inv in (
+      short-in _ w (at-loop .before .before .before .pre) (omega (arith, at-test .loop-test .taken, w .whole)) (sym (at-read-at .read-at .ensures) ∙ at-told .enum-told .given .1) (λ e. absurd (c .if1 .left e)),
+      omega arith,
+    )
 
 enum-known-place : tie.Need-enum-known-place Inv-loop μ-loop
 enum-known-place c = search needs
 
-add-refuse : tie.Need-add-refuse Inv-loop μ-loop
-add-refuse c =
-    let at-place = c .before .before in
-    let at-read-at = at-place .before .before in
+add-t18 : tie.Need-add-t18 Inv-loop μ-loop
+add-t18 c =
+    let at-read-at = c .before .before .before in
     let at-loop = at-read-at .before .before in
-    let begun = at-loop .before .before in
-    omega (arith, reach-bad (at-loop .loop .at) (now (begun .args .sheet)) _ (sym (at-read-at .read-at .ensures) ∙ at-place .place .given .1) (at-loop .loop .inv .within))
+    omega (arith, reach-bad (at-loop .loop .at) (now (at-loop .before .before .before .args .sheet)) _ (sym (at-read-at .read-at .ensures) ∙ c .before .place .given .1) (at-loop .loop .inv .within))
 
-refuse-requires-2 : tie.Need-refuse-requires-2 Inv-loop μ-loop
-refuse-requires-2 c κs = search needs
+same-length-4 : tie.Need-same-length-4 Inv-loop μ-loop
+same-length-4 c = c .before .before .before .before .before .loop .inv .whole
 
-returns-2 : tie.Need-returns-2 Inv-loop μ-loop
-returns-2 c =
-    let at-place = c .before .before .before in
-    let at-read-at = at-place .before .before in
-    let at-loop-test = at-read-at .before in
-    let at-loop = at-loop-test .before in
-    c .refuse2 .ensures ∙ sym (at-bad (at-loop .loop .inv) (at-loop-test .loop-test .taken) _ (sym (at-read-at .read-at .ensures) ∙ at-place .place .given .1))
+returns-4 : tie.Need-returns-4 Inv-loop μ-loop
+returns-4 c =
+    let at-read-at = c .before .before .before in
+    let at-test = at-read-at .before in
+    let at-loop = at-test .before in
+    let w = at-loop .loop .inv in (
+      bad-in _ w (at-loop .before .before .before .pre) (omega (arith, at-test .loop-test .taken, w .whole)) _ (sym (at-read-at .read-at .ensures) ∙ c .before .place .given .1),
+      omega arith,
+    )
 
 add-k : tie.Need-add-k Inv-loop μ-loop
-add-k c = omega arith
+add-k c = search needs
 
 loop-less : tie.Need-loop-less Inv-loop μ-loop
-loop-less c = omega arith
+loop-less c =
+    let at-test = c .before .before .before .before in
+    omega (arith, at-test .loop-test .taken, at-test .before .loop .inv .whole)
 
 loop-again : tie.Need-loop-again Inv-loop μ-loop
 loop-again c =
-    let at-value = c .before in
-    let at-read-at = at-value .before .before in
-    let at-loop-test = at-read-at .before in
-    let at-loop = at-loop-test .before in
-    at-whole (at-loop .loop .inv) (at-loop-test .loop-test .taken) _ _ (sym (at-read-at .read-at .ensures) ∙ at-value .value .given .1)
+    let at-read-at = c .before .before .before in
+    let at-test = at-read-at .before in
+    let w = at-test .before .loop .inv in
+    at-whole w (omega (arith, at-test .loop-test .taken, w .whole)) _ _ (sym (at-read-at .read-at .ensures) ∙ c .before .value .given .1)
 
-refuse-requires-3 : tie.Need-refuse-requires-3 Inv-loop μ-loop
-refuse-requires-3 c κs = search needs
+same-length-5 : tie.Need-same-length-5 Inv-loop μ-loop
+same-length-5 c = c .before .before .loop .inv .whole
 
-returns-3 : tie.Need-returns-3 Inv-loop μ-loop
-returns-3 c =
-    let at-if1 = c .before .before in
-    let at-loop-test = at-if1 .before in
-    let at-loop = at-loop-test .before in
-    c .refuse3 .ensures ∙ sym (at-more (at-loop .loop .inv) (at-loop-test .loop-test .left) (at-if1 .if1 .taken))
+returns-5 : tie.Need-returns-5 Inv-loop μ-loop
+returns-5 c =
+    let at-loop = c .before .before in
+    let w = at-loop .loop .inv in
+    (bytes-follow _ w (at-loop .before .before .before .pre) (omega (arith, c .before .loop-test .left, w .whole)) (c .if3 .taken), omega arith)
 
-returns-4 : tie.Need-returns-4 Inv-loop μ-loop
-returns-4 c = sym (at-end (c .before .before .loop .inv) (c .before .loop-test .left) (c .if1 .left))
+same-length-6 : tie.Need-same-length-6 Inv-loop μ-loop
+same-length-6 c = c .before .before .loop .inv .whole
+
+returns-6 : tie.Need-returns-6 Inv-loop μ-loop
+returns-6 c =
+    let at-loop = c .before .before in
+    let w = at-loop .loop .inv in
+    (all-read _ w (at-loop .before .before .before .pre) (omega (arith, c .before .loop-test .left, w .whole)) (c .if3 .left), w .few)
 
 pub read-numbers-spec : {M : Type 1} → statement M
 read-numbers-spec =
@@ -110,18 +142,23 @@ read-numbers-spec =
     read-at-requires
     enum-known-value
     mul-fields
-    element-write-fields
+    slice-write-fields
     add-at
     enum-told
-    refuse-requires
+    same-length
     returns
-    enum-known-place
-    add-refuse
-    refuse-requires-2
+    same-length-2
     returns-2
+    same-length-3
+    returns-3
+    enum-known-place
+    add-t18
+    same-length-4
+    returns-4
     add-k
     loop-less
     loop-again
-    refuse-requires-3
-    returns-3
-    returns-4)
+    same-length-5
+    returns-5
+    same-length-6
+    returns-6)

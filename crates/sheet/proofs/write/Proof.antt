@@ -1,110 +1,70 @@
--- The code goes by what judging says, then by the buffer's length (proofs/Answers.antt); the bytes are those of the array.
-use Prim.Native.Nat.{_≤_}
+-- A February of 28 days is left out, any other stands.
+use Prim.Native.Nat.{ℕ, _≤_}
 use mathlib.Core.Path.{_≡_, sym, ap, _∙_}
+use mathlib.Core.List.{List}
 use native.Mathlib.Omega.{arith}
 use denote.Ref.{now}
-use lib.ListN.{length, take, replicate}
-use Rattle.verdict.specs.declared.Verdict.the-variants.{Accepted}
-use Rattle.sheet.specs.Numbers.{written}
-use Rattle.fields.specs.Refusals.{fieldsVerdict}
-use Rattle.sheet.proofs.Lengths.{written-length}
-use Rattle.sheet.proofs.Answers.{refused-on, short-on, accepted-on, write-refused, write-copied, write-put, bytes-taken}
+use lib.ListN.{length, take}
+use lib.Seq.{length-take-le}
+use Rattle.sheet.specs.Writing.{fieldsWritten}
+use Rattle.sheet.proofs.Answers.{fields-plain, fields-leap}
 use borrow.Author.Needs.{needs}
 use Rattle.sheet.proofs.write.Statement.{statement}
 use Rattle.sheet.proofs.write.Tie as tie
 
-judge-requires : tie.Need-judge-requires
-judge-requires c κs = search needs
+long : (f : List ℕ) → length f ≡ 41 → 40 ≤ length f
+long f n = omega arith
 
-enum-known-number : tie.Need-enum-known-number
-enum-known-number c = search needs
+left-out : (f : List ℕ) → length f ≡ 41 → (40 ≤ length (take 40 f)) × (length (take 40 f) ≤ 41)
+left-out f n = let e = length-take-le 40 f (long f n) in (omega arith, omega arith)
+
+array-read-if1 : tie.Need-array-read-if1
+array-read-if1 c = search needs
+
+array-share-prefix-fields : tie.Need-array-share-prefix-fields
+array-share-prefix-fields c = search needs
+
+slice-aggregate-write-fields : tie.Need-slice-aggregate-write-fields
+slice-aggregate-write-fields c = sym (length-take-le 40 (c .before .before .before .args .t1) (long (c .before .before .before .args .t1) (search needs)))
+
+write-fields-requires : tie.Need-write-fields-requires
+write-fields-requires c κs = left-out (c .before .before .before .before .args .t1) (search needs)
+
+same-length : tie.Need-same-length
+same-length c = search needs
 
 returns : tie.Need-returns
 returns c =
-    let at-number = c .before in
-    let at-judge = at-number .before .before in
-    let start = at-judge .before .before .before in
-    write-refused (start .args .t1) (now (start .args .sheet)) _ _ (refused-on (start .args .t1) (now (start .args .sheet)) _ _ (sym (at-judge .judge .ensures) ∙ at-number .number .given .1))
+    let start = c .before .before .before .before .before .before .before in
+    let t = start .args .t1 in
+    c .before .before .write-fields .ensures ∙ sym (ap (λ (f : List ℕ). fieldsWritten f (now (start .args .sheet))) (fields-plain t (c .before .before .before .before .before .if1 .taken)))
 
-enum-told : tie.Need-enum-told
-enum-told c = search needs
+slice-aggregate-write-fields-2 : tie.Need-slice-aggregate-write-fields-2
+slice-aggregate-write-fields-2 c = search needs
 
--- nothing is refused by 4 to 7, so there is room for the bytes
-judged : (c : tie.After-enum-told) → fieldsVerdict (c .before .before .before .before .before .args .t1) ≡ Accepted
-judged c = sym (c .before .before .judge .ensures) ∙ c .enum-told .given .1
+write-fields-requires-2 : tie.Need-write-fields-requires-2
+write-fields-requires-2 c κs = search needs
 
-few : (c : tie.After-enum-told) → length (written (c .before .before .before .before .before .args .t1)) ≤ 86
-few c = written-length (c .before .before .before .before .before .args .t1) (search needs) (judged c) .1
-
-put-numbers-requires : tie.Need-put-numbers-requires
-put-numbers-requires c κs = omega (arith, few (c .before .before .before), c .before .before .if1 .taken)
+same-length-2 : tie.Need-same-length-2
+same-length-2 c = search needs
 
 returns-2 : tie.Need-returns-2
 returns-2 c =
-    let at-put-numbers = c .before .before in
-    let at-if1 = at-put-numbers .before .before .before in
-    let at-enum-told = at-if1 .before in
-    let start = at-enum-told .before .before .before .before .before in
-    write-put (start .args .t1) (now (start .args .sheet)) (accepted-on (start .args .t1) (now (start .args .sheet)) (judged (at-enum-told)) (omega (arith, few (at-enum-told), at-if1 .if1 .taken))) (omega (arith, few (at-enum-told), at-if1 .if1 .taken)) (at-put-numbers .put-numbers .ensures .0) (at-put-numbers .put-numbers .ensures .1)
-
-put-numbers-requires-2 : tie.Need-put-numbers-requires-2
-put-numbers-requires-2 c κs = omega (arith, few (c .before .before .before))
-
--- the bytes that are copied
-taken : (c : tie.After-put-numbers2)
-    → take (c .put-numbers2 .result) (c .put-numbers2 .last .0) ≡ written (c .before .before .before .before .before .before .before .before .before .args .t1)
-taken c =
-    bytes-taken (c .before .before .before .before .before .before .before .before .before .args .t1) (replicate 86 0) _ _ (omega (arith, few (c .before .before .before .before))) (c .put-numbers2 .ensures .0) (c .put-numbers2 .ensures .1)
-
-returns-3 : tie.Need-returns-3
-returns-3 c =
-    let at-put-numbers2 = c .before .before in
-    let at-enum-told = at-put-numbers2 .before .before .before .before in
-    let start = at-enum-told .before .before .before .before .before in
-    write-refused (start .args .t1) (now (start .args .sheet)) 15 0 (short-on (start .args .t1) (now (start .args .sheet)) (judged (at-enum-told)) (omega (arith, c .if2 .taken, at-put-numbers2 .put-numbers2 .ensures .0)))
-
-array-share-prefix-made : tie.Need-array-share-prefix-made
-array-share-prefix-made c =
-    let at-put-numbers2 = c .before .before in
-    let at-enum-told = at-put-numbers2 .before .before .before .before in
-    omega (arith, few (at-enum-told), at-put-numbers2 .put-numbers2 .ensures .0, at-put-numbers2 .put-numbers2 .kept .0)
-
-slice-aggregate-copy : tie.Need-slice-aggregate-copy
-slice-aggregate-copy c = c .before .before .before .put-numbers2 .ensures .0 ∙ sym (ap length (taken (c .before .before .before)))
-
-copy-requires : tie.Need-copy-requires
-copy-requires c κs =
-    let at-if2 = c .before .before in
-    let at-put-numbers2 = at-if2 .before .before in
-    omega (arith, at-if2 .if2 .left, at-put-numbers2 .put-numbers2 .ensures .0, ap length (taken (at-put-numbers2)))
-
-returns-4 : tie.Need-returns-4
-returns-4 c =
-    let at-copy = c .before .before in
-    let at-if2 = at-copy .before .before .before in
-    let at-put-numbers2 = at-if2 .before .before in
-    let at-enum-told = at-put-numbers2 .before .before .before .before in
-    let start = at-enum-told .before .before .before .before .before in
-    write-copied (start .args .t1) (now (start .args .sheet)) (accepted-on (start .args .t1) (now (start .args .sheet)) (judged (at-enum-told)) (omega (arith, at-if2 .if2 .left, at-put-numbers2 .put-numbers2 .ensures .0))) (at-put-numbers2 .put-numbers2 .ensures .0) (taken (at-put-numbers2)) (at-copy .copy .ensures .1)
+    let start = c .before .before .before .before .before .before .before in
+    let t = start .args .t1 in
+    c .before .before .write-fields2 .ensures ∙ sym (ap (λ (f : List ℕ). fieldsWritten f (now (start .args .sheet))) (fields-leap t (c .before .before .before .before .before .if1 .left)))
 
 pub write-spec : {M : Type 1} → statement M
 write-spec =
     tie.close
     (tie.spec
-    judge-requires
-    enum-known-number
+    array-read-if1
+    array-share-prefix-fields
+    slice-aggregate-write-fields
+    write-fields-requires
+    same-length
     returns
-    enum-told
-    (λ c. search needs)
-    put-numbers-requires
-    (λ c. search needs)
-    returns-2
-    (λ c. search needs)
-    (λ c. search needs)
-    put-numbers-requires-2
-    returns-3
-    array-share-prefix-made
-    slice-aggregate-copy
-    copy-requires
-    (λ c. search needs)
-    returns-4)
+    slice-aggregate-write-fields-2
+    write-fields-requires-2
+    same-length-2
+    returns-2)
