@@ -5,12 +5,14 @@
  * states them.
  *
  * PARAMETERS
- *   sheet, sheet_length  The season sheet, read only. Any bytes, any length.
+ *   sheet, sheet_length  The season sheet, read only. Any bytes, any length. Pass the sheet's own length: a buffer
+ *                        padded with FF or 00 is refused.
  *   area, area_length    The journal, read only: no call writes to it. Any bytes, any length; blank is every byte FF.
  *   amount               Points, hundredths of a millimetre. Any number.
  *   ky                   The yield response factor Ky, in hundredths. Any number.
  *   depths, rows         A buffer that you lend, with how many numbers it has. Too few is refusal 15.
- *   fields               An array of BALLADSKY_FIELDS numbers, read only. Any numbers.
+ *   fields               An array of BALLADSKY_FIELDS numbers, read only: fields 1 to 40 of the sheet, then the days
+ *                        of February. Any numbers.
  *   out                  An array of BALLADSKY_OUT numbers that you lend.
  * The lengths of `fields` and `out` are what no call can test. To write, `sheet` is a buffer of bytes that you lend:
  * too few is refusal 15.
@@ -60,14 +62,19 @@ extern "C" {
 #define BALLADSKY_AREA 8192  /* bytes of the longest area */
 #define BALLADSKY_DEPTHS 275 /* numbers that every plan fits in */
 #define BALLADSKY_ROWS 174   /* numbers that every table fits in: 29 rows of six */
-#define BALLADSKY_SHEET 86   /* bytes that every sheet fits in */
-#define BALLADSKY_FIELDS 40  /* numbers of a sheet */
+#define BALLADSKY_SHEET 87   /* bytes that every sheet fits in */
+#define BALLADSKY_FIELDS 41  /* numbers of fields */
 
 /* What out[0] says. A refusal is the first that applies, read downward but for 17, of those that the call gives. In
  * brackets what out[1] then is; else it is 0. None passes 8,192.
  *
  * Of 1 and 2 it is whichever comes first in the bytes: a sheet of the two bytes 80 00 is refused 2 with place 1, though
  * 1 applies too.
+ * Bytes behind the fortieth number are read as a forty-first, the days of February. It must be 29, in whatever season:
+ * forty numbers mean 28, and 28 there is refused 4 with 41. A start on 29 February is refused 4 with 2 where it is not
+ * 29. Blank memory behind forty numbers is a number that goes on: behind a sheet of n bytes, FF is refused 1 with
+ * n + 1, FF FF 1 with n + 2, three or more 2 with n + 2. 00 is the number 0, refused 4 with 41, and two or more 3 with
+ * n + 1.
  * 15 is given by the plan, after 11 and before 16, where depths has fewer numbers than there are days from the open day
  * to the season's last; by the table, after 7, where rows has fewer than six numbers a row; by write, after 7, where
  * the buffer has fewer bytes than the sheet.
@@ -75,11 +82,12 @@ extern "C" {
  * refused 9, and a torn one 17. */
 enum {
     BALLADSKY_ACCEPTED = 0,             /* accepted; open: the journal is clean */
-    BALLADSKY_SHEET_ENDS = 1,           /* the sheet ends before its fortieth number is whole [the sheet's length] */
+    BALLADSKY_SHEET_ENDS = 1,           /* the sheet ends before its fortieth number is whole, or within its
+                                           forty-first [the sheet's length] */
     BALLADSKY_BAD_NUMBER = 2,           /* a number has a third byte of 80 or more, or a last byte 00 after others
                                            [the offending byte's place] */
-    BALLADSKY_BYTES_FOLLOW = 3,         /* bytes follow the fortieth number [the first extra byte's place] */
-    BALLADSKY_FIELD_OUT_OF_RANGE = 4,   /* a field is outside its range [the lowest such field, 1 to 40] */
+    BALLADSKY_BYTES_FOLLOW = 3,         /* bytes follow the forty-first number [the first extra byte's place] */
+    BALLADSKY_FIELD_OUT_OF_RANGE = 4,   /* a field is outside its range [the lowest such field, 1 to 41] */
     BALLADSKY_SEASON_TOO_LONG = 5,      /* the season is longer than 275 days */
     BALLADSKY_ROOTS_SHRINK = 6,         /* the root depth at sowing is above the full one */
     BALLADSKY_OPENING_TOO_DRY = 7,      /* the opening depletion is above the total water of day 1 */
@@ -132,9 +140,10 @@ void balladsky_plan(const uint8_t *sheet, size_t sheet_length, const uint8_t *ar
  * many rows. Refusals 1 to 7, and 15. */
 void balladsky_table(const uint8_t *sheet, size_t sheet_length, uint32_t *rows, size_t rows_length, uint32_t *out);
 
-/* Writes a sheet: fields are its forty numbers, field 1 first. Accepted: the buffer begins with the sheet's bytes;
- * out[2] how many they are, which is sheet_length for the other calls. Refusals 4 to 7 as the other calls give them,
- * and 15. */
+/* Writes a sheet: fields are its forty numbers, field 1 first, and then the days of February, 28 or 29; anything else
+ * there is refused 4 with 41. 28 is left out of the sheet, 29 is its forty-first number. Accepted: the buffer begins
+ * with the sheet's bytes; out[2] how many they are, which is sheet_length for the other calls. Refusals 4 to 7 as the
+ * other calls give them, and 15. */
 void balladsky_write(const uint32_t *fields, uint8_t *sheet, size_t sheet_length, uint32_t *out);
 
 #ifdef __cplusplus

@@ -1,14 +1,15 @@
-/* What a tablet does: it makes the small sheet of document 01 from its forty numbers and prints its bytes, then reads
- * it back by its decade table. After that two calls that are refused: a field out of its range, and a buffer that is
- * too short. */
+/* What a tablet does: it makes the small sheet of document 01 from its forty numbers and the days of February and
+ * prints its bytes, then reads it back by its decade table. After that two calls that are refused: a field out of its
+ * range, and a buffer that is too short. */
 #include "balladsky.h"
 #include <stdio.h>
 #include <stdlib.h>
 
-/* 1 9; 1 1 1 1; 40 100 60; 500 and eleven 0; twelve 0; 100 20 20 50; 75; 0; turns 127. */
+/* 1 9; 1 1 1 1; 40 100 60; 500 and eleven 0; twelve 0; 100 20 20 50; 75; 0; turns 127. Then February, which with 28
+ * days is left out of the sheet. */
 static uint32_t fields[BALLADSKY_FIELDS] = {
     1, 9, 1, 1, 1, 1, 40, 100, 60, 500, 0, 0, 0, 0, 0, 0, 0, 0, 0, 0, 0,
-    0, 0, 0, 0, 0, 0, 0, 0, 0, 0, 0, 0, 100, 20, 20, 50, 75, 0, 127,
+    0, 0, 0, 0, 0, 0, 0, 0, 0, 0, 0, 0, 100, 20, 20, 50, 75, 0, 127, 28,
 };
 
 static uint8_t sheet[BALLADSKY_SHEET];

@@ -7,12 +7,14 @@ use lib.ListN.{length, drop}
 use Rattle.season.specs.declared.Season.{Season}
 use Rattle.season.specs.Rules.{ramp, rampZ}
 use Rattle.season.specs.Calendar.{nextDay, daysOn}
-use Rattle.season.specs.Day.{dateOf, kcOf, cropNeed, rainOn}
+use Rattle.season.specs.Day.{dateOf, stageOf, inStage, kcOf, cropNeed, rainOn}
+use Rattle.season.specs.Closing.{closeDay}
+use Rattle.season.specs.SmallSheet as season
 use Rattle.verdict.specs.declared.Verdict.the-variants as verdict
 use Rattle.verdict.specs.Refusals.{orRefused, verdictOf}
 use Rattle.leb128.specs.Groups.{encode, overGroups, overIn, groupCount}
 use Rattle.leb128.specs.Forms.{decode, decodeFrom, below}
-use Rattle.sheet.specs.Numbers.{before, numbers, ended, numbersRead, written}
+use Rattle.sheet.specs.Numbers.{before, numbers, after, further, ended, numbersIn, written}
 use Rattle.fields.specs.Fields.{outside, lowestOutside}
 use Rattle.fields.specs.Refusals.{fieldsVerdict}
 use Rattle.sheet.specs.Sheets.{sheetOf}
@@ -23,7 +25,7 @@ use Rattle.journal.specs.declared.Opening.the-variants as found
 use Rattle.journal.specs.declared.Recorded.{Recorded}
 use Rattle.journal.specs.declared.Opened.{Opened}
 use Rattle.journal.specs.declared.Ledger.{Ledger}
-use Rattle.journal.specs.Entries.{tagOf, sourceTag, numberOf, start, enter, refusal, accepts, passes}
+use Rattle.journal.specs.Entries.{tagOf, sourceTag, numberOf, start, closing, enter, refusal, accepts, passes}
 use Rattle.journal.specs.Entries as journal
 use Rattle.journal.specs.Opening as openings
 use Rattle.journal.specs.Opening.{value, least, starts, entryOf, only, entryAt, replay, replayed, isBlank, trim, tornAt, behind, opening}
@@ -42,11 +44,11 @@ use Rattle.planner.specs.Plan.{ending, walk, watered, pad, onWalk, byWalks}
 use Rattle.planner.specs.Answer.{sum, answerTo, answer}
 use Rattle.decades.specs.declared.Tabled.{Tabled}
 use Rattle.decades.specs.declared.Tabled.the-variants as table
-use Rattle.decades.specs.Table.{tabled}
+use Rattle.decades.specs.Table.{dayRow, withDay, rowsTo, six, flat, tabled}
 use Rattle.planner.proofs.Claims as plans
 use Rattle.controller.specs.Calls.{plannedOn, sheetOpened, sheetRecorded, sheetPlanned, sheetTabled, onSheet}
 use Rattle.controller.specs.Refusals.{openLines, lossLines, entryLines, planLines, tableLines}
-use Rattle.controller.specs.Cases.{cases}
+use Rattle.controller.specs.Cases.{cases, leapCases}
 use Rattle.controller.specs.Claims.{Claims}
 use Rattle.controller.proofs.Sheets.{on-sheet}
 use Rattle.controller.proofs.Demands.{opens, plan-right, demand-3}
@@ -117,8 +119,12 @@ module _ (sheet : List ℕ) where
       (λ s v q o h. table-refused-keeps s out number value h)
 
 cases-hold : map (λ (c : List ℕ × List ℕ). c .0) cases ≡ map (λ (c : List ℕ × List ℕ). c .1) cases
-unfolding cases onSheet plannedOn sheetOf fieldsVerdict lowestOutside outside numbersRead ended numbers before written decode decodeFrom below encode overGroups overIn groupCount orRefused opening replayed replay behind isBlank trim tornAt entryAt entryOf only value least starts start enter refusal accepts passes tagOf sourceTag numberOf journal.outside opened openedOn wipePlaces openedNumbers wipesIn answer answerTo byWalks onWalk pad walk ending watered irrigated sum dateOf kcOf cropNeed rainOn nextDay daysOn ramp rampZ
+unfolding cases onSheet plannedOn sheetOf fieldsVerdict lowestOutside outside numbersIn further after ended numbers before written decode decodeFrom below encode overGroups overIn groupCount orRefused opening replayed replay behind isBlank trim tornAt entryAt entryOf only value least starts start enter refusal accepts passes tagOf sourceTag numberOf journal.outside opened openedOn wipePlaces openedNumbers wipesIn answer answerTo byWalks onWalk pad walk ending watered irrigated sum dateOf kcOf cropNeed rainOn nextDay daysOn ramp rampZ
 cases-hold = refl
+
+leap-cases-hold : map (λ (c : List ℕ × List ℕ). c .0) leapCases ≡ map (λ (c : List ℕ × List ℕ). c .1) leapCases
+unfolding leapCases season.leap onSheet closing closeDay stageOf inStage encode overGroups overIn groupCount tabled rowsTo withDay dayRow six flat plannedOn decode decodeFrom below orRefused opening replayed replay behind isBlank trim tornAt entryAt entryOf only value least starts start enter refusal accepts passes tagOf sourceTag numberOf journal.outside opened openedOn wipePlaces openedNumbers wipesIn answer answerTo byWalks onWalk pad walk ending watered irrigated sum dateOf kcOf cropNeed rainOn nextDay daysOn ramp rampZ
+leap-cases-hold = rw (sheets.claims .leap-read .0, sheets.claims .leap-read .1) refl
 
 pub claims : Claims
 unfolding recordedWith
@@ -146,6 +152,7 @@ claims = record {
   planning = plans.claims;
   sheet-as-written = sheets.claims .accepted-as-written;
   written-as-sheet = sheets.claims .written-accepted;
+  one-spelling = sheets.claims .one-spelling;
   write-read = sheets.claims .write-read;
   read-write = sheets.claims .read-write;
   entries = journals.claims;
@@ -153,4 +160,5 @@ claims = record {
   opened-occurs = opened-occurs;
   recorded-occurs = recorded-occurs;
   cases-hold = cases-hold;
+  leap-cases-hold = leap-cases-hold;
 }

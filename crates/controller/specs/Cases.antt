@@ -1,22 +1,24 @@
--- Document 01, 'Numbers to hold against it': every case marked †, in its order. Left, what the calls and their definitions answer; right, the document's numbers.
-use Prim.Native.Nat.{ℕ}
+-- Document 01, 'Numbers to hold against it': every case marked †, in its order; then those of a season over the end of February (document 02, T-06). Left, what the calls and their definitions answer; right, the document's numbers.
+use Prim.Native.Nat.{ℕ, _*_}
 use mathlib.Core.List.{List, [], _∷_, _++_}
-use lib.ListN.{replicate, set}
+use lib.ListN.{take, getD, replicate, set}
 use Rattle.verdict.specs.Refusals as verdict
 use Rattle.leb128.specs.Groups.{encode}
 use Rattle.season.specs.declared.Season.{Season}
 use Rattle.season.specs.Rules.{effectiveRain, plannedRain}
-use Rattle.season.specs.Day.{cropNeed}
+use Rattle.season.specs.Day.{cropNeed, rainOn}
 use Rattle.season.specs.Closing.{cropUse}
 use Rattle.season.specs.Depths.{netIs, grossOf}
 use Rattle.sheet.specs.Numbers.{written}
 use Rattle.fields.specs.Fields.{seasonOf}
 use Rattle.sheet.specs.Sheets.{sheetOf}
-use Rattle.sheet.specs.Cases.{small}
+use Rattle.sheet.specs.Cases.{small, leap}
 use Rattle.journal.specs.Calls.{openedNumbers}
 use Rattle.planner.specs.declared.Planned.{Planned}
 use Rattle.planner.specs.Answer as planner
-use Rattle.controller.specs.Calls.{sheetOpened, sheetPlanned}
+use Rattle.decades.specs.declared.Tabled.{Tabled}
+use Rattle.decades.specs.Table as decades
+use Rattle.controller.specs.Calls.{sheetOpened, sheetPlanned, sheetTabled}
 
 -- The small sheet's bytes with these turns, which are its fortieth field.
 abbrev smallSheet : ℕ → List ℕ
@@ -66,4 +68,52 @@ cases =
     ∷ (smallPlan 10, 0 ∷ 0 ∷ 2 ∷ 1200 ∷ 1600 ∷ 0 ∷ 200 ∷ 0 ∷ 1000 ∷ 7 ∷ [])
     -- turns 1: refused 16, day 3.
     ∷ (smallPlan 1, 16 ∷ 3 ∷ replicate 5 7)
+    ∷ []
+
+-- ---- the leap sheet
+
+-- Its fields, with no forty-first where February has 28 days.
+abbrev february28 : List ℕ
+february28 = leap
+
+abbrev february29 : List ℕ
+february29 = leap ++ (29 ∷ [])
+
+-- C and planned rain on its four days.
+abbrev days : Season → List ℕ
+days s =
+    cropNeed s 1 ∷ cropNeed s 2 ∷ cropNeed s 3 ∷ cropNeed s 4
+    ∷ rainOn s 1 ∷ rainOn s 2 ∷ rainOn s 3 ∷ rainOn s 4 ∷ []
+
+-- A table's numbers, and then the lent buffer of twelve.
+abbrev rows : Tabled × List ℕ → List ℕ
+rows a = decades.numbersOf (a .0) ++ a .1
+
+abbrev table : List ℕ → List ℕ
+table fields = rows (sheetTabled (written fields) (replicate 12 7))
+
+-- The plan on a blank journal.
+abbrev plan : List ℕ → List ℕ
+plan fields = shown (sheetPlanned (written fields) (replicate 8 0xFF) (replicate 4 7))
+
+-- The depletion after so many days are closed, no water having come.
+abbrev dry : List ℕ → ℕ → ℕ
+dry fields closed =
+    getD (openedNumbers (sheetOpened (written fields) (take (2 * closed) (0x03 ∷ 0x01 ∷ 0x03 ∷ 0x02 ∷ 0x03 ∷ 0x03 ∷ 0x03 ∷ 0x04 ∷ []) ++ replicate 8 0xFF))) 3 0
+
+abbrev depletions : List ℕ → List ℕ
+depletions fields = dry fields 1 ∷ dry fields 2 ∷ dry fields 3 ∷ dry fields 4 ∷ []
+
+unfoldable pub leapCases : List (List ℕ × List ℕ)
+leapCases =
+    -- With 28: day 3 is 1 March.
+    (days (seasonOf february28), 200 ∷ 500 ∷ 1000 ∷ 600 ∷ 300 ∷ 300 ∷ 270 ∷ 271 ∷ [])
+    ∷ (table february28, 0 ∷ 0 ∷ 2 ∷ 2 ∷ 3 ∷ 700 ∷ 600 ∷ 100 ∷ 134 ∷ 3 ∷ 1 ∷ 1600 ∷ 541 ∷ 1059 ∷ 1412 ∷ [])
+    ∷ (plan february28, 0 ∷ 0 ∷ 2 ∷ 959 ∷ 1279 ∷ 0 ∷ 0 ∷ 230 ∷ 729 ∷ [])
+    ∷ (depletions february28, 200 ∷ 700 ∷ 1700 ∷ 1880 ∷ [])
+    -- With 29: day 3 is 29 February, and each day of February has less of its rain.
+    ∷ (days (seasonOf february29), 200 ∷ 500 ∷ 500 ∷ 600 ∷ 289 ∷ 290 ∷ 290 ∷ 270 ∷ [])
+    ∷ (table february29, 0 ∷ 0 ∷ 2 ∷ 2 ∷ 3 ∷ 1200 ∷ 869 ∷ 331 ∷ 442 ∷ 3 ∷ 1 ∷ 600 ∷ 270 ∷ 330 ∷ 440 ∷ [])
+    ∷ (plan february29, 0 ∷ 0 ∷ 1 ∷ 440 ∷ 587 ∷ 0 ∷ 0 ∷ 0 ∷ 440 ∷ [])
+    ∷ (depletions february29, 200 ∷ 700 ∷ 1200 ∷ 1680 ∷ [])
     ∷ []

@@ -13,7 +13,7 @@ use Rattle.sheet.specs.Numbers.{numbersAre, numbersRead, written}
 use Rattle.fields.specs.Fields.{seasonOf}
 use Rattle.fields.specs.Refusals.{fieldsVerdict}
 use Rattle.sheet.specs.Sheets.{sheetIs, sheetOf}
-use Rattle.sheet.specs.Writing.{writeLines, sheetWritten, writeVerdict, fieldsOf}
+use Rattle.sheet.specs.Writing.{sheetFields, tabletFields, writeLines, sheetWritten, writeVerdict, fieldsOf}
 use Rattle.journal.specs.declared.Entry.{Entry}
 use Rattle.journal.specs.declared.Ledger.{Ledger}
 use Rattle.journal.specs.declared.Opening.the-variants.{Clean}
@@ -32,7 +32,7 @@ use Rattle.decades.specs.Table as tabled
 use Rattle.controller.specs.Calls.{sheetOpened, sheetRecorded, sheetLost, sheetPlanned, sheetTabled}
 use Rattle.controller.specs.Refusals.{onLines, openLines, lossLines, entryLines, planLines, tableLines}
 use Rattle.controller.specs.Demands.{PlanKept, Demand3}
-use Rattle.controller.specs.Cases.{cases}
+use Rattle.controller.specs.Cases.{cases, leapCases}
 
 pub record Claims : Type 0 where
   -- Demand 3: for every accepted sheet, area length, history with its cuts, and lent buffer.
@@ -45,7 +45,7 @@ pub record Claims : Type 0 where
   pub plan-refuses : (sheet area out : List ℕ)
       → verdictOf (planned.numbersOf (sheetPlanned sheet area out .0)) ≡ firstOf Accepted (onLines sheet (planLines area (length out)))
   pub table-refuses : (sheet out : List ℕ) → verdictOf (tabled.numbersOf (sheetTabled sheet out .0)) ≡ firstOf Accepted (onLines sheet (tableLines (length out)))
-  pub write-refuses : (vs out : List ℕ) → writeVerdict (sheetWritten vs out .0) ≡ firstOf Accepted (writeLines vs (length out))
+  pub write-refuses : (vs out : List ℕ) → writeVerdict (sheetWritten vs out .0) ≡ firstOf Accepted (writeLines (sheetFields vs) (length out))
   -- and a refused call has no stores and leaves every lent buffer as it was.
   pub open-no-stores : (sheet area : List ℕ) (number value : ℕ) → sheetOpened sheet area .opening ≡ found.Refused number value
       → sheetOpened sheet area ≡ openedWith (found.Refused number value) []
@@ -67,16 +67,21 @@ pub record Claims : Type 0 where
       → PlanKept (sheetOf sheet .season) l out (sheetPlanned sheet area out)
   -- The planner's claims, whole: of any outlook, a plan is refused exactly when no choice holds, and a plan made is the best.
   pub planning : planner.Claims
-  -- Demand 2: an accepted sheet and its forty fields match one to one.
+  -- Demand 2: an accepted sheet and its fields, forty or forty-one, match one to one,
   pub sheet-as-written : (sheet : List ℕ) → Bytes sheet → sheetOf sheet .verdict ≡ Accepted → sheet ≡ written (numbersRead sheet .fields)
-  pub written-as-sheet : (vs : List ℕ) → length vs ≡ 40 → fieldsVerdict vs ≡ Accepted
+  pub written-as-sheet : (vs : List ℕ) → 40 ≤ length vs → length vs ≤ 41 → fieldsVerdict vs ≡ Accepted
       → sheetOf (written vs) ≡ record { season = seasonOf vs; verdict = Accepted }
-  -- What the writer makes is read as those forty numbers,
-  pub write-read : (vs out : List ℕ) (k : ℕ) → length vs ≡ 40 → sheetWritten vs out .0 ≡ Made k
-      → (numbersRead (take k (sheetWritten vs out .1)) ≡ numbersAre vs Accepted) × (sheetOf (take k (sheetWritten vs out .1)) ≡ sheetIs (seasonOf vs) Accepted)
+  -- and an accepted sheet and its season.
+  pub one-spelling : (a b : List ℕ) → Bytes a → Bytes b → sheetOf a .verdict ≡ Accepted → sheetOf b .verdict ≡ Accepted
+      → sheetOf a .season ≡ sheetOf b .season → a ≡ b
+  -- What the writer makes of forty-one numbers is read as the sheet's, which are the tablet's again,
+  pub write-read : (vs out : List ℕ) (k : ℕ) → length vs ≡ 41 → sheetWritten vs out .0 ≡ Made k
+      → (numbersRead (take k (sheetWritten vs out .1)) ≡ numbersAre (sheetFields vs) Accepted)
+      × (sheetOf (take k (sheetWritten vs out .1)) ≡ sheetIs (seasonOf (sheetFields vs)) Accepted)
+      × (tabletFields (sheetFields vs) ≡ vs)
   -- and a sheet that the reader accepts is what the writer makes of its fields.
   pub read-write : (sheet out : List ℕ) → Bytes sheet → sheetOf sheet .verdict ≡ Accepted → length sheet ≤ length out
-      → sheetWritten (fieldsOf (sheetOf sheet .season)) out ≡ (Made (length sheet), sheet ++ drop (length sheet) out)
+      → sheetWritten (tabletFields (fieldsOf (sheetOf sheet .season))) out ≡ (Made (length sheet), sheet ++ drop (length sheet) out)
   -- Entries and their bytes match one to one too: `bytes-read`, `read-stands` and `bytes-one-to-one` of the journal's claims.
   pub entries : journal.Claims
   -- Opening finds clean, torn and damaged in document 01's words, behind the longest run of whole entries that would each have been accepted.
@@ -87,3 +92,5 @@ pub record Claims : Type 0 where
   pub recorded-occurs : (sheet area : List ℕ) (e : Entry) → RecordedOccurs (sheetRecorded sheet area e)
   -- The cases marked †.
   pub cases-hold : map (λ (c : List ℕ × List ℕ). c .0) cases ≡ map (λ (c : List ℕ × List ℕ). c .1) cases
+  -- The leap sheet's, with a February of 28 days and of 29.
+  pub leap-cases-hold : map (λ (c : List ℕ × List ℕ). c .0) leapCases ≡ map (λ (c : List ℕ × List ℕ). c .1) leapCases

@@ -128,8 +128,8 @@ pub fn table(sheet: &[u8], rows: &mut [u32]) -> Tabled
     }
 }
 
-// The sheet of forty numbers, from the start of a lent buffer; bytes beyond it stay. Refusals 4 to 7, and 15.
-pub fn write(fields: [u32; 40], sheet: &mut [u8]) -> Written
+// The sheet of the tablet's forty-one numbers, from the start of a lent buffer; bytes beyond it stay. Refusals 4 to 7, and 15.
+pub fn write(fields: [u32; 41], sheet: &mut [u8]) -> Written
     ensures { λ r. ⌜ (r, now (sheet .exit)) ≡ sheetWritten fields (now (sheet .entry)) ⌝ }
 {
     sheet::write(fields, sheet)

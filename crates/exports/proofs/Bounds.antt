@@ -17,7 +17,7 @@ use Rattle.sheet.proofs.Numbered.{refused-is, write-refused-is}
 use Rattle.sheet.proofs.Claims as sheets
 use Rattle.sheet.specs.declared.Written.{Written}
 use Rattle.sheet.specs.declared.Written.the-variants as writer
-use Rattle.sheet.specs.Writing.{sheetWritten, writeVerdict}
+use Rattle.sheet.specs.Writing.{sheetFields, sheetWritten, writeVerdict}
 use Rattle.sheet.specs.Sheets.{sheetOf}
 use Rattle.season.specs.Sheet.{seasonDays, longestSeason}
 use Rattle.journal.specs.declared.Entry.{Entry}
@@ -226,10 +226,10 @@ tabled-small sheet out =
 
 -- ---- write
 
-pub written-small : (fields out : List ℕ) → length fields ≡ 40 → SmallWritten (sheetWritten fields out .0)
+pub written-small : (fields out : List ℕ) → length fields ≡ 41 → SmallWritten (sheetWritten fields out .0)
 written-small fields out n = go (sheetWritten fields out .0) refl
   where
     go : (w : Written) → sheetWritten fields out .0 ≡ w → SmallWritten w
-    go (writer.Made count) e = omega (arith, sheets.claims .write-length fields out count e n .1)
+    go (writer.Made count) e = omega (arith, sheets.claims .write-length fields out count n e .1)
     go (writer.Refused number value) e =
-        omega (arith, write-refused-is fields (length out) number value (sym (sheets.claims .write-refuses fields out) ∙ ap writeVerdict e))
+        omega (arith, write-refused-is (sheetFields fields) (length out) number value (sym (sheets.claims .write-refuses fields out) ∙ ap writeVerdict e))

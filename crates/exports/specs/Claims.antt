@@ -32,7 +32,7 @@ pub record Claims : Type 0 where
   pub lost-small : (sheet area : List ℕ) (ky : ℕ) → SmallLost (sheetLost sheet area ky)
   pub planned-small : (sheet area depths : List ℕ) → SmallPlanned (sheetPlanned sheet area depths .0)
   pub tabled-small : (sheet rows : List ℕ) → SmallTabled (sheetTabled sheet rows .0)
-  pub written-small : (fields sheet : List ℕ) → length fields ≡ 40 → SmallWritten (sheetWritten fields sheet .0)
+  pub written-small : (fields sheet : List ℕ) → length fields ≡ 41 → SmallWritten (sheetWritten fields sheet .0)
   -- The numberings made here are one to one on the answers that occur.
   pub opened-one-to-one : (q r : Opened) → OpenedOccurs q → OpenedOccurs r → openedOut q ≡ openedOut r → q ≡ r
   pub recorded-one-to-one : (q r : Recorded) → RecordedOccurs q → RecordedOccurs r → recordedOut q ≡ recordedOut r → q ≡ r

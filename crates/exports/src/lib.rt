@@ -156,7 +156,7 @@ fn put_entry(sheet: &[u8], area: &[u8], e: Entry, out: &mut [u32; OUT])
 }
 
 // The writer's answer, with the sheet in the lent buffer. (The numbers by value: an array tells its length, a reference to one does not.)
-fn put_sheet(fields: [u32; 40], sheet: &mut [u8], out: &mut [u32; OUT])
+fn put_sheet(fields: [u32; 41], sheet: &mut [u8], out: &mut [u32; OUT])
     ensures { λ _. ⌜ (now (out .exit), now (sheet .exit)) ≡ sheetOver (now (out .entry)) (sheetWritten fields (now (sheet .entry))) ⌝ }
 {
     match controller::write(fields, sheet) {
@@ -244,7 +244,7 @@ pub extern "C" fn balladsky_table(sheet: &[u8], rows: &mut [u32], out: &mut [u32
 
 // Bytes; the sheet in the lent buffer. Refusals 4 to 7, and 15.
 #[no_mangle]
-pub extern "C" fn balladsky_write(fields: &[u32; 40], sheet: &mut [u8], out: &mut [u32; OUT])
+pub extern "C" fn balladsky_write(fields: &[u32; 41], sheet: &mut [u8], out: &mut [u32; OUT])
     ensures { λ _. ⌜ (now (out .exit), now (sheet .exit)) ≡ sheetOver (now (out .entry)) (sheetWritten (now (fields .entry)) (now (sheet .entry))) ⌝ }
 {
     let own = *fields;

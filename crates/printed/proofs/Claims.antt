@@ -10,7 +10,7 @@ use Rattle.season.specs.Calendar.{nextDay, daysOn}
 use Rattle.season.specs.Day.{dateOf, kcOf, cropNeed, rainOn}
 use Rattle.verdict.specs.Refusals.{orRefused}
 use Rattle.decades.specs.Table.{dayRow, withDay, rowsTo, six, flat}
-use Rattle.sheet.specs.Numbers.{before, numbers, ended, numbersRead, written}
+use Rattle.sheet.specs.Numbers.{before, numbers, after, further, ended, numbersIn, written}
 use Rattle.fields.specs.Fields.{outside, lowestOutside}
 use Rattle.fields.specs.Refusals.{fieldsVerdict}
 use Rattle.sheet.specs.Sheets.{sheetOf}
@@ -20,10 +20,10 @@ use Rattle.printed.specs.Text.{decimal, ending, cells, printed}
 use Rattle.printed.specs.Cases.{edges}
 use Rattle.printed.specs.Claims.{Claims}
 
-first-bytes-decide : (t y : List ℕ) → 121 ≤ length t → printed (t ++ y) ≡ printed t
+first-bytes-decide : (t y : List ℕ) → 124 ≤ length t → printed (t ++ y) ≡ printed t
 unfolding onSheet
 first-bytes-decide t y h = rw (start.first-bytes-decide t y h)
 
 pub claims : Claims
-unfolding encode overGroups overIn decode decodeFrom below ramp rampZ nextDay daysOn dateOf kcOf cropNeed rainOn orRefused dayRow withDay rowsTo six flat before numbers ended numbersRead written outside lowestOutside fieldsVerdict sheetOf decimal ending cells onSheet edges
+unfolding encode overGroups overIn decode decodeFrom below ramp rampZ nextDay daysOn dateOf kcOf cropNeed rainOn orRefused dayRow withDay rowsTo six flat before numbers after further ended numbersIn written outside lowestOutside fieldsVerdict sheetOf decimal ending cells onSheet edges
 claims = record { first-bytes-decide = first-bytes-decide; edges-hold = refl }

@@ -8,8 +8,8 @@ pub const OUT: usize = 24;
 pub const AREA: usize = 8192;
 pub const DEPTHS: usize = 275;
 pub const ROWS: usize = 174;
-pub const SHEET: usize = 86;
-pub const FIELDS: usize = 40;
+pub const SHEET: usize = 87;
+pub const FIELDS: usize = 41;
 
 /// What out[0] says: accepted, or clean; torn, from open; else a refusal.
 pub const ACCEPTED: u32 = 0;
@@ -76,6 +76,7 @@ pub fn table(sheet: &[u8], rows: &mut [u32], out: &mut Out) {
     unsafe { c::balladsky_table(sheet.as_ptr(), sheet.len(), rows.as_mut_ptr(), rows.len(), out.as_mut_ptr()) }
 }
 
+/// The last of the fields is the days of February, 28 or 29; 28 is left out of the sheet.
 pub fn write(fields: &[u32; FIELDS], sheet: &mut [u8], out: &mut Out) {
     unsafe { c::balladsky_write(fields.as_ptr(), sheet.as_mut_ptr(), sheet.len(), out.as_mut_ptr()) }
 }

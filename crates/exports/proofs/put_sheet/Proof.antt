@@ -2,6 +2,7 @@
 use Prim.Native.Nat.{ℕ}
 use mathlib.Core.Path.{ap}
 use mathlib.Core.List.{List}
+use denote.Ref.{now}
 use Rattle.sheet.specs.declared.Written.{Written}
 use Rattle.sheet.specs.Writing.{numbersOf}
 use Rattle.exports.specs.Small.{SmallWritten}
@@ -15,13 +16,15 @@ put-size-requires : tie.Need-put-size-requires
 put-size-requires c κs =
     let at-count = c .before .before in
     let at-write = at-count .before .before .before .before in
-    holds-by (at-count .count .given .1) (ap (λ (a : Written × List ℕ). a .0) (at-write .write .ensures)) SmallWritten (written-small _ _ (search needs))
+    let start = at-write .before .before .before in
+    holds-by (at-count .count .given .1) (ap (λ (a : Written × List ℕ). a .0) (at-write .write .ensures)) SmallWritten (written-small (start .args .fields) (now (start .args .sheet)) (search needs))
 
 put-refusal-requires : tie.Need-put-refusal-requires
 put-refusal-requires c κs =
     let at-number = c .before .before in
     let at-write = at-number .before .before .before .before in
-    holds-by (at-number .number .given .1) (ap (λ (a : Written × List ℕ). a .0) (at-write .write .ensures)) SmallWritten (written-small _ _ (search needs))
+    let start = at-write .before .before .before in
+    holds-by (at-number .number .given .1) (ap (λ (a : Written × List ℕ). a .0) (at-write .write .ensures)) SmallWritten (written-small (start .args .fields) (now (start .args .sheet)) (search needs))
 
 returns : tie.Need-returns
 returns c =
