@@ -1,10 +1,10 @@
 //! Compares the static library with the plain implementation on random cases: sheets valid, damaged and written,
 //! journals clean, torn and damaged, areas of 0 to 8,193 bytes, histories with a cut after every store. The whole of
 //! `out` and of each lent buffer is compared, noise beyond the answer included; histories are compared with the book
-//! too, and openings and lost yield with document 02's cases. In every case each buffer that the library is given ends
-//! before a guard page or begins behind one, so that a read or write past it is a fault, and sheet, area and fields
-//! must be as they were. Then lengths from 2^16 to 2^32 and a little more, which are other lengths to whoever keeps
-//! fewer bits.
+//! too, and openings, lost yield and forty-first numbers with document 02's cases. In every case each buffer that the
+//! library is given ends before a guard page or begins behind one, so that a read or write past it is a fault, and
+//! sheet, area and fields must be as they were. Then lengths from 2^16 to 2^32 and a little more, which are other
+//! lengths to whoever keeps fewer bits.
 //! Prints its seed; stops with status 1 at the first difference or fault.
 //!
 //!     cargo run --release --manifest-path harness/Cargo.toml [SEED]
@@ -13,7 +13,7 @@ use harness::memory::{self, Guarded, Side};
 use harness::numbers;
 use harness::plain::book::{self, Book, Call};
 use harness::plain::{self, Opening};
-use harness::random::{self, Dice};
+use harness::random::{self, Dice, Fields};
 
 /// A call, with what it is given beside sheet and area. Loss: Ky. Plan and table: how many numbers are lent.
 #[derive(Clone, Copy, Debug)]
@@ -122,10 +122,10 @@ impl Guards {
     }
 
     /// The writer's answer over `before`, likewise.
-    fn write(&mut self, fields: &[u32; 40], before: &Sheet, sides: u32) -> Sheet {
+    fn write(&mut self, fields: &Fields, before: &Sheet, sides: u32) -> Sheet {
         let side = |bit: u32| if sides >> bit & 1 == 0 { Side::Ends } else { Side::Begins };
         let (f, s) = (self.lent.numbers(fields, side(0)), self.sheet.bytes(&before.1, side(1)));
-        let f: &[u32; 40] = (&*f).try_into().unwrap();
+        let f: &Fields = (&*f).try_into().unwrap();
         let out: &mut Out = self.out.numbers(&before.0, side(2)).try_into().unwrap();
         let message = || format!("the library's write touched what it was not given\nfields {fields:?}, {} bytes", before.1.len());
         memory::watched(&message, || library::write(f, s, out));
@@ -159,7 +159,7 @@ impl Tally {
     }
 
     /// The writer, into so many bytes of noise.
-    fn written(&mut self, g: &mut Dice, fields: &[u32; 40], room: usize) -> Sheet {
+    fn written(&mut self, g: &mut Dice, fields: &Fields, room: usize) -> Sheet {
         let noise = g.next() as u32;
         let mut right: Sheet = (noisy(noise), (0..room).map(|i| noise as u8 ^ i as u8).collect());
         let left = self.guards.write(fields, &right, noise >> 28);
@@ -188,10 +188,9 @@ impl Tally {
 
 /// Sheets valid and damaged, on short areas.
 fn sheets(t: &mut Tally, g: &mut Dice) {
-    for _ in 0..30_000 {
+    for _ in 0..45_000 {
         let days = g.pick(&[4, 30, plain::DAYS as u32]);
-        let mut sheet = plain::write_sheet(&random::spoilt_fields(g, days));
-        random::spoil_sheet(g, &mut sheet);
+        let sheet = random::any_sheet(g, days);
         let area = vec![0xff; g.of(0, 12) as usize];
         t.all(g, &sheet, &area);
     }
@@ -201,12 +200,12 @@ fn sheets(t: &mut Tally, g: &mut Dice) {
     }
 }
 
-/// Sheets written: any fields, into a byte too few, just enough, 86 and 120. What is made is opened.
+/// Sheets written: any fields, into a byte too few, just enough, 87 and 120. What is made is opened.
 fn writer(t: &mut Tally, g: &mut Dice) {
-    for _ in 0..40_000 {
+    for _ in 0..54_000 {
         let days = g.pick(&[4, 30, plain::DAYS as u32]);
         let fields = random::any_fields(g, days);
-        let size = plain::write_sheet(&fields).len();
+        let size = random::sheet(&fields).len();
         for room in [size - 1, size, library::SHEET, 120] {
             let (out, sheet) = t.written(g, &fields, room);
             if out[0] == library::ACCEPTED {
@@ -219,31 +218,118 @@ fn writer(t: &mut Tally, g: &mut Dice) {
         let (out, _) = t.written(g, &random::with(random::small(127), &[(field, value)]), room);
         assert_eq!(out[..2], want, "document 02's cases");
     }
-}
-
-/// The longest season and one a day longer, from every date, with one number too few, enough and one more.
-fn longest(t: &mut Tally, g: &mut Dice) {
-    let mut rows = 0;
-    for (days, month) in [275, 276].into_iter().flat_map(|n| (1..=12).map(move |m| (n, m))) {
-        for date in 1..=plain::MONTHS[month as usize - 1] {
-            let mut f = random::with(random::fields(g, 275), &[(1, month), (2, date), (39, 0)]);
-            f[2..6].copy_from_slice(&random::stages(g, days));
-            let sheet = plain::write_sheet(&f);
-            for (depths, numbers) in [(274, 173), (275, 174), (276, 175)] {
-                t.same(g, &sheet, &[0xff; 8], Ask::Plan(depths));
-                let out = t.same(g, &sheet, &[], Ask::Table(numbers));
-                assert_eq!(out[0] == library::SEASON_TOO_LONG, days == 276);
-                rows = if out[0] == 0 { rows.max(out[2]) } else { rows };
-            }
+    // The longest sheets: 86 bytes, and 87 with the forty-first number.
+    let mut longest = [0; 41];
+    longest[..9].copy_from_slice(&[12, 31, 128, 128, 10, 9, 200, 200, 200]);
+    longest[9..21].fill(1_500);
+    longest[21..33].fill(60_000);
+    longest[33..].copy_from_slice(&[400, 300, 300, 80, 100, 120_000, 127, 28]);
+    for (february, room, want) in [(28, 86, [0, 0]), (28, 85, [15, 0]), (29, library::SHEET, [0, 0]), (29, 86, [15, 0])] {
+        let (out, sheet) = t.written(g, &random::with(longest, &[(41, february)]), room);
+        assert_eq!(out[..2], want, "the longest sheet, February {february}, in {room}");
+        if out[0] == library::ACCEPTED {
+            assert_eq!((out[2] as usize, t.same(g, &sheet, &[], Ask::Open)[0]), (room, 0), "the longest sheet is read");
         }
     }
-    assert_eq!(rows, 29, "the most rows of a table");
 }
 
-/// Areas of every length from 0 to 8,193: full of entries as far as they go, blank, or blank but for the last byte.
+/// Forty-first numbers by document 02, T-06: the bytes behind the fortieth number of the small sheet with some fields
+/// changed, the writer's last number, and a season over the end of February with 28 days and with 29.
+fn forty_first(t: &mut Tally, g: &mut Dice) {
+    let (blank, leap_day) = ([0xff; 64], [(1, 2), (2, 29)]);
+    let every = || ON_JOURNAL.into_iter().chain([Ask::Table(12)]);
+    let behind: [(&[(usize, u32)], &[u8], [u32; 2]); 34] = [
+        (&[], &[], [0, 0]), (&[], &[0x1d], [0, 0]),
+        (&[], &[0x1c], [4, 41]), (&[], &[0x1e], [4, 41]), (&[], &[0], [4, 41]), (&[], &[0x9d, 1], [4, 41]),
+        (&[], &[0x9d], [1, 42]), (&[], &[0x9d, 0], [2, 42]), (&[], &[0x80; 2], [1, 43]), (&[], &[0x80; 3], [2, 43]),
+        (&[], &[0x1d, 0], [3, 42]), (&[], &[0x1e, 0], [3, 42]), (&[], &[0x1d, 0xff], [3, 42]), (&[], &[0x9d, 1, 9], [3, 43]),
+        (&[], &[0; 2], [3, 42]), (&[], &[0; 46], [3, 42]),
+        (&[], &[0xff], [1, 42]), (&[], &[0xff; 2], [1, 43]), (&[], &[0xff; 3], [2, 43]), (&[], &[0xff; 46], [2, 43]),
+        (&leap_day, &[], [4, 2]), (&leap_day, &[28], [4, 2]), (&leap_day, &[30], [4, 2]), (&leap_day, &[0xc8, 1], [4, 2]),
+        (&leap_day, &[29], [0, 0]), (&leap_day, &[29, 29], [3, 42]),
+        (&[(1, 2), (2, 28)], &[28], [4, 41]), (&[(1, 2), (2, 28)], &[30], [4, 41]), (&[(1, 2), (2, 28)], &[29], [0, 0]),
+        (&[(1, 2), (2, 30)], &[29], [4, 2]), (&[(1, 13), (2, 29)], &[30], [4, 1]), (&[(40, 128)], &[30], [4, 40]),
+        (&[(35, 21)], &[30], [4, 41]), (&[(35, 21)], &[29], [6, 0]),
+    ];
+    for (changes, bytes, want) in behind {
+        let fields = random::with(random::small(127), changes);
+        let sheet = [plain::write_sheet(&fields[..40]), bytes.to_vec()].concat();
+        for ask in every() {
+            assert_eq!(t.same(g, &sheet, &blank, ask)[..2], want, "{ask:?}, {changes:?}, then {bytes:02x?}");
+        }
+    }
+    // The writer: so many bytes are lent, and it answers so many where it accepts.
+    let lent: [(&[(usize, u32)], u32, usize, &[u32]); 19] = [
+        (&[], 28, 41, &[0, 0, 41]), (&[], 28, 40, &[15, 0]), (&[], 29, 42, &[0, 0, 42]), (&[], 29, 41, &[15, 0]),
+        (&[], 0, 87, &[4, 41]), (&[], 27, 87, &[4, 41]), (&[], 30, 0, &[4, 41]), (&[], 157, 87, &[4, 41]),
+        (&[], 285, 87, &[4, 41]), (&[], 65_565, 87, &[4, 41]), (&[], 0x8000_001c, 87, &[4, 41]),
+        (&[], u32::MAX, 87, &[4, 41]), (&leap_day, 28, 87, &[4, 2]), (&leap_day, 30, 87, &[4, 2]),
+        (&leap_day, 29, 87, &[0, 0, 42]), (&[(1, 2), (2, 30)], 29, 87, &[4, 2]), (&[(1, 2), (2, 28)], 30, 87, &[4, 41]),
+        (&[(40, 128)], 30, 87, &[4, 40]), (&[(35, 21)], 30, 87, &[4, 41]),
+    ];
+    for (changes, february, room, want) in lent {
+        let fields = random::with(random::with(random::small(127), changes), &[(41, february)]);
+        let (out, made) = t.written(g, &fields, room);
+        assert_eq!(out[..want.len()], *want, "{changes:?} and {february} written into {room}");
+        if out[0] == library::ACCEPTED {
+            assert_eq!(made[..out[2] as usize], random::sheet(&fields), "{changes:?} and {february} written into {room}");
+        }
+    }
+    // Rows, depths, waterings with the net and the gross total, and the depletion after each close without water.
+    let seasons: [(u32, [u32; 12], [u32; 4], [u32; 3], [u32; 4]); 2] = [
+        (28, [2, 3, 700, 600, 100, 134, 3, 1, 1_600, 541, 1_059, 1_412], [0, 0, 230, 729], [2, 959, 1_279], [200, 700, 1_700, 1_880]),
+        (29, [2, 3, 1_200, 869, 331, 442, 3, 1, 600, 270, 330, 440], [0, 0, 0, 440], [1, 440, 587], [200, 700, 1_200, 1_680]),
+    ];
+    for (february, rows, depths, totals, depletions) in seasons {
+        let fields = random::leap(february);
+        let (out, made) = t.written(g, &fields, library::SHEET);
+        let sheet = &made[..out[2] as usize];
+        assert_eq!((out[0], sheet), (0, &random::sheet(&fields)[..]), "February {february}");
+        for ask in every() {
+            assert_eq!(t.same(g, sheet, &blank, ask)[..2], [0, 0], "February {february}, {ask:?}");
+        }
+        for answer in [by_library, by_plain] {
+            let (mut out, mut lent) = ([7; OUT], [7; 13]);
+            answer(sheet, &[], Ask::Table(13), &mut out, &mut lent);
+            assert_eq!((&out[..4], &lent[..12], lent[12]), (&[0, 0, 2, 7][..], &rows[..], 7), "rows, February {february}");
+            answer(sheet, &blank, Ask::Plan(5), &mut out, &mut lent[8..]);
+            assert_eq!((&out[2..5], &lent[8..12], lent[12]), (&totals[..], &depths[..], 7), "plan, February {february}");
+        }
+        let mut area = Vec::new();
+        for (day, depletion) in (1..).zip(depletions) {
+            area.extend(book::bytes(book::Entry::Close(day)));
+            assert_eq!(t.same(g, sheet, &area, Ask::Open)[..4], [0, 0, day + 1, depletion], "February {february}");
+        }
+    }
+}
+
+/// The longest season and one a day longer, from every date with 28 days of February and with 29, with one number too
+/// few, enough and one more. With 29 no table has 29 rows: 27 whole decades and a day on either side are 276 days or more.
+fn longest(t: &mut Tally, g: &mut Dice) {
+    for (february, months, most) in [(28, plain::MONTHS, 29), (29, plain::LEAP_MONTHS, 28)] {
+        let mut rows = 0;
+        for (days, month) in [275, 276].into_iter().flat_map(|n| (1..=12).map(move |m| (n, m))) {
+            for date in 1..=months[month as usize - 1] {
+                let mut f = random::with(random::fields(g, 275), &[(1, month), (2, date), (39, 0), (41, february)]);
+                f[2..6].copy_from_slice(&random::stages(g, days));
+                let sheet = random::sheet(&f);
+                for (depths, numbers) in [(274, 173), (275, 174), (276, 175)] {
+                    t.same(g, &sheet, &[0xff; 8], Ask::Plan(depths));
+                    let out = t.same(g, &sheet, &[], Ask::Table(numbers));
+                    assert_eq!(out[0] == library::SEASON_TOO_LONG, days == 276);
+                    rows = if out[0] == 0 { rows.max(out[2]) } else { rows };
+                }
+            }
+        }
+        assert_eq!(rows, most, "the most rows of a table, February {february}");
+    }
+}
+
+/// Areas of every length from 0 to 8,193: full of entries as far as they go, blank, or blank but for the last byte. Each
+/// with 28 days of February and with 29, in a season that starts before them.
 fn lengths(t: &mut Tally, g: &mut Dice) {
-    let f = random::with(random::fields(g, 275), &[(3, 45), (4, 70), (5, 90), (6, 70), (39, 0)]);
-    let sheet = plain::write_sheet(&f);
+    let f = random::with(random::fields(g, 275), &[(1, 1), (2, 20), (3, 45), (4, 70), (5, 90), (6, 70), (39, 0)]);
+    let sheets = [28, 29].map(|february| random::sheet(&random::with(f, &[(41, february)])));
     let mut full = Vec::new();
     for day in 1..=275 {
         for _ in 0..g.of(6, 14) {
@@ -261,14 +347,16 @@ fn lengths(t: &mut Tally, g: &mut Dice) {
         if length % 8 == 7 {
             area[length - 1] = g.next() as u8;
         }
-        t.all(g, &sheet, &area);
+        for sheet in &sheets {
+            t.all(g, sheet, &area);
+        }
     }
 }
 
 /// Journals clean, torn and damaged.
 fn journals(t: &mut Tally, g: &mut Dice) {
-    for round in 0..20_000 {
-        let sheet = plain::write_sheet(&random::fields(g, if round % 4 == 0 { plain::DAYS as u32 } else { 12 }));
+    for round in 0..40_000 {
+        let sheet = random::sheet(&random::fields(g, if round % 4 == 0 { plain::DAYS as u32 } else { 12 }));
         let season = plain::read_sheet(&sheet).unwrap();
         let area = random::any_journal(g, &season, &sheet, 1_300);
         t.all(g, &sheet, &area);
@@ -277,7 +365,7 @@ fn journals(t: &mut Tally, g: &mut Dice) {
 
 /// Openings of the small sheet by document 02, T-05, over noise: the first numbers of `out`, and its last four.
 fn openings(t: &mut Tally, g: &mut Dice) {
-    let sheet = plain::write_sheet(&random::small(127));
+    let sheet = random::sheet(&random::small(127));
     let cut: [&[u8]; 3] = [&[1, 7, 2, 0xff, 0x80], &[1, 7, 2, 0xff], &[1, 7]];
     let cases: [(&[u8], usize, &[u32], Option<[u32; 4]>); 7] = [
         (&[1, 0xac], 4, &[10, 0, 1, 0, 0, 0, 0, 0, 0, 0, 0], Some([2, 1, 0, 0])),
@@ -307,7 +395,7 @@ fn losses(t: &mut Tally, g: &mut Dice) {
     let needless = random::with(small, &[(10, 0)]);
     let closes = |days| (1..=days).flat_map(|d| book::bytes(book::Entry::Close(d))).collect::<Vec<u8>>();
     // So many dry days closed: F, need and use of each stage, and the losses by each Ky.
-    let cases: [([u32; 40], u32, [u32; 9], &[(u32, [u32; 5])]); 6] = [
+    let cases: [(Fields, u32, [u32; 9], &[(u32, [u32; 5])]); 6] = [
         (small, 0, [0; 9], &[(200, [0; 5])]),
         (small, 4, [1_500, 200, 200, 500, 500, 500, 500, 300, 240], &[
             (1, [4, 0, 0, 0, 20]), (100, [400, 0, 0, 0, 2_000]), (200, [800, 0, 0, 0, 4_000]),
@@ -321,7 +409,7 @@ fn losses(t: &mut Tally, g: &mut Dice) {
         (needless, 4, [0; 9], &[(200, [0; 5])]),
     ];
     for (fields, days, sums, by_ky) in cases {
-        let (sheet, mut area) = (plain::write_sheet(&fields), closes(days));
+        let (sheet, mut area) = (random::sheet(&fields), closes(days));
         area.resize(area.len() + g.of(0, 9) as usize, 0xff);
         assert_eq!(t.same(g, &sheet, &area, Ask::Open)[11..20], sums, "document 02's sums, {days} days of {fields:?}");
         for &(ky, want) in by_ky {
@@ -336,7 +424,7 @@ fn losses(t: &mut Tally, g: &mut Dice) {
         (&damaged, 0, [9, 0]), (&long, 201, [8, 0]), (&closed, 201, [17, 0]), (&closed, 0, [17, 0]),
         (&blank, u32::MAX, [17, 0]), (&[], 0, [17, 0]),
     ];
-    let sheet = plain::write_sheet(&small);
+    let sheet = random::sheet(&small);
     for (area, ky, want) in refused {
         assert_eq!(t.same(g, &sheet, area, Ask::Loss(ky))[..2], want, "Ky {ky} on {area:02x?}");
     }
@@ -344,18 +432,18 @@ fn losses(t: &mut Tally, g: &mut Dice) {
     let mut most = random::with(small, &[(3, 45), (4, 70), (5, 90), (6, 70), (34, 1), (35, 10), (36, 10), (39, 10)]);
     most[6..9].fill(200);
     most[9..21].fill(1_500);
-    let (most, area) = (plain::write_sheet(&most), closes(275));
+    let (most, area) = (random::sheet(&most), closes(275));
     let sums = [825_000, 135_000, 0, 210_000, 0, 270_000, 0, 210_000, 0];
     assert_eq!(t.same(g, &most, &area, Ask::Open)[11..20], sums, "the largest sums");
     for ky in 1..=200 {
         let out = t.same(g, &most, &area, Ask::Loss(ky));
         assert_eq!(out[2..7], [(100 * ky).min(10_000); 5], "no use at all, Ky {ky}");
     }
-    // A sheet of each refusal, and two accepted.
-    let spoilt = |changes: &[(usize, u32)]| plain::write_sheet(&random::with(small, changes));
+    // A sheet of each refusal, and three accepted.
+    let spoilt = |changes: &[(usize, u32)]| random::sheet(&random::with(small, changes));
     let sheets = [
-        vec![], [&sheet[..40], &[0x80, 0]].concat(), [&sheet[..], &[0]].concat(), spoilt(&[(2, 32)]),
-        spoilt(&[(3, 200), (4, 76)]), spoilt(&[(35, 21)]), spoilt(&[(39, 2_001)]), spoilt(&[(39, 2_000)]), sheet,
+        vec![], [&sheet[..40], &[0x80, 0]].concat(), [&sheet[..], &[29, 0]].concat(), spoilt(&[(2, 32)]),
+        spoilt(&[(3, 200), (4, 76)]), spoilt(&[(35, 21)]), spoilt(&[(39, 2_001)]), spoilt(&[(39, 2_000)]), spoilt(&[(41, 29)]), sheet,
     ];
     for (number, sheet) in [1, 2, 3, 4, 5, 6, 7].into_iter().zip(&sheets) {
         assert_eq!(t.same(g, sheet, &long, Ask::Loss(0))[0], number, "the sheet is judged first");
@@ -370,8 +458,8 @@ fn losses(t: &mut Tally, g: &mut Dice) {
 
 /// Plans, tables and losses of long seasons, on clean journals.
 fn plans(t: &mut Tally, g: &mut Dice) {
-    for _ in 0..10_000 {
-        let sheet = plain::write_sheet(&random::fields(g, plain::DAYS as u32));
+    for _ in 0..20_000 {
+        let sheet = random::sheet(&random::fields(g, plain::DAYS as u32));
         let season = plain::read_sheet(&sheet).unwrap();
         let (area, l) = random::journal(g, &season, &sheet, 4_000);
         let left = (season.days + 1 - l.day) as usize;
@@ -416,9 +504,9 @@ fn as_the_book(sheet: &[u8], area: &[u8], ask: Ask, out: Out, want: &[u32]) {
 /// The losses are those of the book's ledger, after each cut by one Ky and after the last call by each at an edge.
 fn histories(t: &mut Tally, g: &mut Dice) -> (u64, u64, u64) {
     let (mut calls, mut torn, mut cut_openings) = (0, 0, 0);
-    for history in 1..=1_200 {
+    for history in 1..=2_400 {
         let (long, fill) = (history % 16 == 0, history % 200 == 0);
-        let sheet = plain::write_sheet(&random::fields(g, if long { plain::DAYS as u32 } else { 12 }));
+        let sheet = random::sheet(&random::fields(g, if long { plain::DAYS as u32 } else { 12 }));
         let season = plain::read_sheet(&sheet).unwrap();
         let length = if fill { 8_192 } else if long { g.pick(&[900, 1_500, 8_192]) } else { g.of(0, 90) as usize };
         let mut area = vec![0xff; length];
@@ -486,10 +574,10 @@ fn ends(lent: &[u32]) -> Vec<u32> {
     [&lent[..k], &lent[lent.len() - k..]].concat()
 }
 
-/// The small sheet, a blank area and two lent buffers, one for each implementation, with room for 2^32 elements and
-/// more. To whoever keeps fewer bits of such a length the sheet is whole or ends early, and the area and the lent
-/// buffer are short.
-struct Long { sheet: &'static mut [u8], area: &'static mut [u8], lent: [&'static mut [u32]; 2], cases: u64 }
+/// The small sheet, with 28 days of February or 29, a blank area and two lent buffers, one for each implementation, with
+/// room for 2^32 elements and more. To whoever keeps fewer bits of such a length the sheet is whole or ends early, and
+/// the area and the lent buffer are short.
+struct Long { sheet: &'static mut [u8], february: u32, area: &'static mut [u8], lent: [&'static mut [u32]; 2], cases: u64 }
 
 /// The calls on a journal; a plan of the small sheet takes four numbers.
 const ON_JOURNAL: [Ask; 6] = [Ask::Open, Ask::Rain(300), Ask::Irrigation(700), Ask::Close, Ask::Loss(100), Ask::Plan(4)];
@@ -500,9 +588,27 @@ impl Long {
     fn new() -> Long {
         let most = (1 << 32) + 8_192;
         let (sheet, area) = (memory::long_bytes(most), memory::long_bytes(most));
-        sheet[..SMALL].copy_from_slice(&plain::write_sheet(&random::small(127)));
         area[..8_192].fill(0xff);
-        Long { sheet, area, lent: [memory::long_numbers(most), memory::long_numbers(most)], cases: 0 }
+        let mut long = Long { sheet, february: 0, area, lent: [memory::long_numbers(most), memory::long_numbers(most)], cases: 0 };
+        long.set(28);
+        long
+    }
+
+    /// Behind the small sheet's forty numbers stands 00, or 29 days of February and then 00.
+    fn set(&mut self, february: u32) {
+        self.february = february;
+        let sheet = random::sheet(&self.fields());
+        self.sheet[SMALL] = 0;
+        self.sheet[..sheet.len()].copy_from_slice(&sheet);
+    }
+
+    fn fields(&self) -> Fields {
+        random::with(random::small(127), &[(41, self.february)])
+    }
+
+    /// The length of the sheet itself.
+    fn whole(&self) -> usize {
+        if self.february == 29 { SMALL + 1 } else { SMALL }
     }
 
     /// What one of the implementations answers, and what stood there before: noise.
@@ -529,27 +635,27 @@ impl Long {
         self.cases += 1;
     }
 
-    /// Bytes follow the fortieth number.
+    /// Bytes follow the forty-first number, which is 0 or 29.
     fn sheets(&mut self, length: usize) {
         for ask in ON_JOURNAL.into_iter().chain([Ask::Table(12)]) {
-            self.case(length, 64, ask, &[3, SMALL as u32], &[]);
+            self.case(length, 64, ask, &[3, SMALL as u32 + 1], &[]);
         }
     }
 
     /// The area is longer than 8,192.
     fn areas(&mut self, length: usize) {
         for ask in ON_JOURNAL {
-            self.case(SMALL, length, ask, &[8, 0], &[]);
+            self.case(self.whole(), length, ask, &[8, 0], &[]);
         }
     }
 
     /// The writer, which makes the small sheet where it stands: into so many bytes, noise behind it and at the end.
     fn writer(&mut self, length: usize) {
-        let small = self.sheet[..SMALL].to_vec();
-        let fields = random::small(127);
+        let (fields, whole) = (self.fields(), self.whole());
+        let small = self.sheet[..whole].to_vec();
         for by_library in [true, false] {
             let (sheet, mut out, mut want) = (&mut self.sheet[..length], noisy(7), noisy(7));
-            want[..3].copy_from_slice(&[0, 0, SMALL as u32]);
+            want[..3].copy_from_slice(&[0, 0, whole as u32]);
             sheet[..ENDS].fill(8);
             sheet[length - ENDS..].fill(9);
             if by_library {
@@ -558,8 +664,8 @@ impl Long {
                 out[..3].copy_from_slice(&numbers::written(plain::write(&fields, sheet)));
             }
             let (first, last) = (&sheet[..ENDS], &sheet[length - ENDS..]);
-            assert!(out == want && first[..SMALL] == small && first[SMALL..] == [8; ENDS - SMALL] && last == [9; ENDS], "write, {length} bytes");
-            sheet[SMALL..ENDS].fill(0);
+            assert!(out == want && first[..whole] == small && first[whole..] == [8; ENDS][whole..] && last == [9; ENDS], "write, {length} bytes");
+            sheet[whole..ENDS].fill(0);
             sheet[length - ENDS..].fill(0);
         }
         self.cases += 1;
@@ -568,19 +674,20 @@ impl Long {
     /// The plan and the table of the small sheet, as document 01 prints them.
     fn buffers(&mut self, count: usize) {
         let rows = [1, 1, 700, 0, 700, 934, 1, 2, 800, 0, 800, 1_067];
-        self.case(SMALL, 64, Ask::Plan(count), &[0, 0, 1, 700, 934], &[0, 0, 700, 0]);
-        self.case(SMALL, 64, Ask::Table(count), &[0, 0, 2], &rows);
+        self.case(self.whole(), 64, Ask::Plan(count), &[0, 0, 1, 700, 934], &[0, 0, 700, 0]);
+        self.case(self.whole(), 64, Ask::Table(count), &[0, 0, 2], &rows);
     }
 }
 
-/// Lengths of 2^16, 2^31 and 2^32 and a little more.
+/// Lengths of 2^16, 2^31 and 2^32 and a little more, with 28 days of February and with 29.
 fn long_lengths() -> u64 {
     let mut long = Long::new();
-    for base in [1 << 16, 1 << 31, 1 << 32] {
-        for more in [0, 40, 41] {
+    for (base, february) in [1 << 16, 1 << 31, 1 << 32].into_iter().flat_map(|b| [(b, 28), (b, 29)]) {
+        long.set(february);
+        for more in [0, 40, 41, 42] {
             long.sheets(base + more);
         }
-        for more in [0, 40, 41] {
+        for more in [0, 40, 41, 42] {
             long.writer(base + more);
         }
         for more in [0, 9, 8_192] {
@@ -599,8 +706,9 @@ fn main() {
     let mut g = Dice(seed);
     let mut t = Tally { cases: 0, answers: [[0; 18]; 8], guards: Guards::new() };
     memory::report_faults();
-    let parts: [(&str, fn(&mut Tally, &mut Dice)); 8] = [
-        ("sheets, valid and damaged", sheets), ("sheets written", writer), ("the longest season and a day more, from every date", longest),
+    let parts: [(&str, fn(&mut Tally, &mut Dice)); 9] = [
+        ("sheets, valid and damaged", sheets), ("sheets written", writer), ("forty-first numbers by document 02", forty_first),
+        ("the longest season and a day more, from every date", longest),
         ("areas of 0 to 8,193 bytes", lengths), ("journals clean, torn and damaged", journals),
         ("openings by document 02", openings),
         ("lost yield, document 02's cases and every Ky at an edge", losses),

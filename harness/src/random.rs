@@ -25,25 +25,54 @@ impl Dice {
     }
 }
 
+/// Forty numbers and the days of February, as the writer takes them.
+pub type Fields = [u32; 41];
+
+/// Their sheet: 28 is left out, any other number written.
+pub fn sheet(f: &Fields) -> Vec<u8> {
+    write_sheet(if f[40] == 28 { &f[..40] } else { f })
+}
+
 /// The small sheet of document 01.
-pub fn small(turns: u32) -> [u32; 40] {
-    let mut f = [0; 40];
+pub fn small(turns: u32) -> Fields {
+    let mut f = [0; 41];
     f[..10].copy_from_slice(&[1, 9, 1, 1, 1, 1, 40, 100, 60, 500]);
-    f[33..].copy_from_slice(&[100, 20, 20, 50, 75, 0, turns]);
+    f[33..].copy_from_slice(&[100, 20, 20, 50, 75, 0, turns, 28]);
+    f
+}
+
+/// Four days over the end of February.
+pub fn leap(february: u32) -> Fields {
+    let mut f = [0; 41];
+    f[..9].copy_from_slice(&[2, 27, 1, 1, 1, 1, 40, 100, 60]);
+    (f[10], f[11], f[22], f[23]) = (500, 1_000, 10_000, 10_000);
+    f[33..].copy_from_slice(&[100, 20, 20, 50, 75, 0, 127, february]);
     f
 }
 
 /// Fields with some changed, counted from 1.
-pub fn with(mut f: [u32; 40], changes: &[(usize, u32)]) -> [u32; 40] {
+pub fn with(mut f: Fields, changes: &[(usize, u32)]) -> Fields {
     for &(field, v) in changes {
         f[field - 1] = v;
     }
     f
 }
 
-/// Forty fields of an accepted sheet, of at most so many days.
-pub fn fields(g: &mut Dice, days: u32) -> [u32; 40] {
-    let mut f = [0; 40];
+/// Fields of an accepted sheet, of at most so many days. Half of them have 29 days of February, and one in four begins
+/// in that month, mostly near its end.
+pub fn fields(g: &mut Dice, days: u32) -> Fields {
+    let mut f = ordinary(g, days);
+    f[40] = g.of(28, 29);
+    if g.one_in(4) {
+        let first = g.pick(&[1, 20, 27]);
+        (f[0], f[1]) = (2, g.of(first, f[40]));
+    }
+    f
+}
+
+/// Such fields with 28 days of February and any start.
+pub fn ordinary(g: &mut Dice, days: u32) -> Fields {
+    let mut f = [28; 41];
     f[0] = g.of(1, 12);
     f[1] = g.of(1, MONTHS[f[0] as usize - 1]);
     loop {
@@ -86,10 +115,10 @@ pub fn stages(g: &mut Dice, days: u32) -> [u32; 4] {
 }
 
 /// Fields at the edge of a refusal, or just past it.
-pub fn spoilt_fields(g: &mut Dice, days: u32) -> [u32; 40] {
+pub fn spoilt_fields(g: &mut Dice, days: u32) -> Fields {
     let mut f = fields(g, days);
     match g.of(0, 9) {
-        0 | 1 => f[g.of(0, 39) as usize] = g.pick(&[0, 1, 5, 28, 29, 30, 31, 127, 128, 201, 16_383, 16_384, 2_097_151, 2_097_152]),
+        0 | 1 => f[g.of(0, 40) as usize] = g.pick(&[0, 1, 5, 28, 29, 30, 31, 127, 128, 201, 16_383, 16_384, 2_097_151, 2_097_152]),
         2 => (f[34], f[35]) = (f[35], f[34]),
         3 => f[38] += g.of(0, 3),
         4 => f[2 + g.of(0, 3) as usize] = g.of(150, 200),
@@ -102,13 +131,49 @@ pub fn spoilt_fields(g: &mut Dice, days: u32) -> [u32; 40] {
     f
 }
 
-/// The same, and in one list of four any number in one of the fields.
-pub fn any_fields(g: &mut Dice, days: u32) -> [u32; 40] {
+/// The same; one list in four has a February of those below, and one in four any number in one of the fields.
+pub fn any_fields(g: &mut Dice, days: u32) -> Fields {
     let mut f = spoilt_fields(g, days);
     if g.one_in(4) {
-        f[g.of(0, 39) as usize] = g.next() as u32 >> g.of(0, 31);
+        february(g, &mut f);
+    }
+    if g.one_in(4) {
+        f[g.of(0, 40) as usize] = g.next() as u32 >> g.of(0, 31);
     }
     f
+}
+
+/// Days of February that are right, wrong, and right to whoever keeps 7, 8, 14, 16 or 31 bits.
+const FEBRUARIES: [u32; 13] = [28, 29, 29, 30, 0, 127, 156, 157, 285, 16_384, 16_413, 65_565, 0x8000_001d];
+
+/// One of these with, one time in two, a start from 28 to 30 February.
+fn february(g: &mut Dice, f: &mut Fields) {
+    f[40] = g.pick(&FEBRUARIES);
+    if g.one_in(2) {
+        (f[0], f[1]) = (2, g.of(28, 30));
+    }
+}
+
+/// A sheet of fields at the edge of a refusal. One in three has such a forty-first number, 28 too, whole, broken off or
+/// wrongly gone on, and half of those have bytes behind it. Then some bytes are spoilt.
+pub fn any_sheet(g: &mut Dice, days: u32) -> Vec<u8> {
+    let mut f = spoilt_fields(g, days);
+    let mut made = sheet(&f);
+    if g.one_in(3) {
+        february(g, &mut f);
+        let mut last = write_sheet(&f[40..]);
+        match g.of(0, 5) {
+            0 => drop(last.pop()),
+            1 => last = g.pick(&[&[0x9d][..], &[0x9d, 0], &[0x80; 2], &[0x80; 3], &[0xff], &[0xff; 2], &[0xff; 5]]).to_vec(),
+            _ => {}
+        }
+        for _ in 0..g.pick(&[0, 0, 1, 3]) {
+            last.push(g.pick(&[0, 1, 29, 0x80, 0xff]));
+        }
+        made = [write_sheet(&f[..40]), last].concat();
+    }
+    spoil_sheet(g, &mut made);
+    made
 }
 
 /// Some bytes of a sheet cut off, changed, put in or added.

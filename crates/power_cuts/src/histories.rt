@@ -13,6 +13,15 @@ pub const SMALL: Block = Block {
     ready: 1000,
 };
 
+// Document 02's leap sheet where February has 29 days: day 3 is the 29th, and C is 200, 500, 500, 600.
+pub const LEAP: Block = Block {
+    days: 4,
+    ends: [1, 2, 3],
+    need: [200, 500, 500, 600],
+    total: 2000,
+    ready: 1000,
+};
+
 // A season of 240 days, 60 a stage, with the same soil, ETo 300 and Kc 100: C is 300 every day.
 pub const LONG: Block = Block {
     days: 240,

@@ -53,6 +53,17 @@ fn cut_without_water() -> bool {
     cut_small(64, &history, b"days without water")
 }
 
+// Forty-one numbers: February has 29 days.
+fn cut_leap() -> bool {
+    let sheet =
+        b"\x02\x1b\x01\x01\x01\x01\x28\x64\x3c\x00\xf4\x03\xe8\x07\x00\x00\x00\x00\x00\x00\x00\x00\x00\x00\x90\x4e\x90\x4e\x00\x00\x00\x00\x00\x00\x00\x00\x00\x64\x14\x14\x32\x4b\x00\x7f\x1d";
+    let history = histories::WITHOUT_WATER;
+    report(
+        cuts::cut_calls(sheet, histories::LEAP, 64, &history),
+        b"days without water, over the leap day",
+    )
+}
+
 fn cut_narrow(size: isize, what: &[u8]) -> bool {
     let history = histories::NARROW;
     cut_small(size, &history, what)
@@ -74,6 +85,7 @@ fn main() {
     if cut_entries()
         && cut_rain_again()
         && cut_without_water()
+        && cut_leap()
         && cut_narrow(7, b"an area of 7 bytes")
         && cut_narrow(6, b"an area of 6 bytes")
         && cut_narrow(0, b"an area of no bytes")

@@ -7,7 +7,7 @@
 // there is no reason. A figure with a reason must be off by more than the tolerance and by at most the deviation.
 // A line that starts with '=' is the sheet that stands for the lines behind it, its forty numbers, and then up to four
 // bytes that its journal starts with; one that starts with '+' is a day; one that starts with '#' says where the figures
-// are printed.
+// are printed. February has 28 days there, and no forty-first number is written, unless a figure's inputs set field 41.
 mod ledger;
 mod rules;
 mod sheets;
@@ -17,6 +17,7 @@ mod writing;
 use text::print;
 use text::print_number;
 use trial::get;
+use trial::put;
 use trial::put_byte;
 use trial::saturating_add;
 
@@ -137,7 +138,7 @@ fn compared(line: &[u8], numbers: &[u32], got: u64) -> Outcome {
 fn run_numbers(
     line: &[u8],
     rule: u32,
-    fields: [u32; 40],
+    fields: [u32; 41],
     balance: &mut [u32; 6],
     area: &mut [u8; 1024],
 ) -> Outcome {
@@ -177,7 +178,7 @@ fn lay_journal(line: &[u8], area: &mut [u8; 1024]) {
 fn run_line(
     line: &[u8],
     rule: u32,
-    fields: &mut [u32; 40],
+    fields: &mut [u32; 41],
     balance: &mut [u32; 6],
     area: &mut [u8; 1024],
 ) -> Outcome {
@@ -189,6 +190,7 @@ fn run_line(
     }
     if starts_with(line, b'=') {
         text::read_numbers(line, fields);
+        put(fields, 40, 28);
         *balance = [0; 6];
         lay_journal(line, area);
         return Outcome::Nothing;
@@ -197,7 +199,7 @@ fn run_line(
 }
 
 fn run_text(data: &[u8], rule: u32) -> Tally {
-    let mut fields = [0u32; 40];
+    let mut fields = [0u32; 41];
     let mut balance = [0u32; 6];
     let mut area = [255u8; 1024];
     let mut all = tally_of(0, 0, 0);
@@ -277,6 +279,7 @@ fn run_exact_rules(before: Tally) -> Tally {
             b"rule_refusals, of the writer",
         )
         .run(b"rule_writing", rules::ROOM)
+        .run(b"rule_dates", rules::DATE)
         .run(b"rule_journal", rules::JOURNAL)
         .run(b"rule_losses", rules::JOURNAL)
 }

@@ -177,12 +177,12 @@ fn set_field(fields: &mut [u32], field: u32, value: u32) {
 }
 
 // A byte of the sheet that the writer makes; or its length, where `whole` is 1.
-fn written(fields: [u32; 40], at: u32, whole: u32) -> u64 {
+fn written(fields: [u32; 41], at: u32, whole: u32) -> u64 {
     if whole == 1 {
-        return writing::in_room(fields, 121, 0);
+        return writing::in_room(fields, 124, 0);
     }
-    if at < 121 {
-        writing::in_room(fields, 121, at + 1)
+    if at < 124 {
+        writing::in_room(fields, 124, at + 1)
     } else {
         0
     }
@@ -215,20 +215,20 @@ fn of_sheet(rule: u32, sheet: &[u8], a: u32, b: u32) -> u64 {
 }
 
 // The sheet that stands, with a line's own fields.
-fn own_fields(fields: [u32; 40], numbers: &[u32]) -> [u32; 40] {
+fn own_fields(fields: [u32; 41], numbers: &[u32]) -> [u32; 41] {
     let mut own = fields;
     set_fields(&mut own, numbers);
     own
 }
 
-// A figure of a season or of the writer, from forty numbers.
-fn of_fields(rule: u32, own: [u32; 40], a: u32, b: u32) -> u64 {
+// A figure of a season or of the writer, from the tablet's numbers.
+fn of_fields(rule: u32, own: [u32; 41], a: u32, b: u32) -> u64 {
     match rule {
         SHEET => written(own, a, b),
         WRITE => writing::refusal(own),
         ROOM => writing::in_room(own, a, b),
         _ => {
-            let mut bytes = [0u8; 121];
+            let mut bytes = [0u8; 124];
             let k = sheets::write_sheet(&own, &mut bytes);
             let n = io::count(signed(k), &bytes);
             of_sheet(rule, &bytes[..n], a, b)
@@ -237,7 +237,7 @@ fn of_fields(rule: u32, own: [u32; 40], a: u32, b: u32) -> u64 {
 }
 
 // The product's answer, by the line's numbers and the sheet that stands.
-pub fn answer(rule: u32, numbers: &[u32], fields: [u32; 40]) -> u64 {
+pub fn answer(rule: u32, numbers: &[u32], fields: [u32; 41]) -> u64 {
     let a = get(numbers, 4);
     let b = get(numbers, 5);
     match rule {
@@ -255,7 +255,7 @@ pub fn answer(rule: u32, numbers: &[u32], fields: [u32; 40]) -> u64 {
 pub fn answer_after_days(
     rule: u32,
     numbers: &[u32],
-    fields: [u32; 40],
+    fields: [u32; 41],
     balance: &[u32],
     area: &[u8],
 ) -> u64 {
@@ -266,7 +266,7 @@ pub fn answer_after_days(
     if which == 0 {
         return get_byte(area, get(numbers, 5) as usize) as u64;
     }
-    let mut bytes = [0u8; 121];
+    let mut bytes = [0u8; 124];
     let k = sheets::write_sheet(&fields, &mut bytes);
     let n = io::count(signed(k), &bytes);
     ledger::number_of(&bytes[..n], area, which, get(numbers, 5))
@@ -276,11 +276,11 @@ pub fn answer_after_days(
 pub fn run_day(
     rule: u32,
     numbers: &[u32],
-    fields: [u32; 40],
+    fields: [u32; 41],
     balance: &mut [u32],
     area: &mut [u8],
 ) {
-    let mut bytes = [0u8; 121];
+    let mut bytes = [0u8; 124];
     let k = sheets::write_sheet(&fields, &mut bytes);
     let n = io::count(signed(k), &bytes);
     let a = get(numbers, 0);

@@ -1,4 +1,4 @@
-// A sheet from its forty numbers, and what the product says of a day of its season.
+// A sheet from its numbers, and what the product says of a day of its season.
 use decades::MOST_NUMBERS;
 use decades::MOST_ROWS;
 use decades::Tabled;
@@ -36,13 +36,19 @@ fn put_groups(bytes: &mut [u8], from: usize, n: u32) -> usize {
     saturating_add(from as u64, groups.count as u64) as usize
 }
 
+// How many of the tablet's numbers stand in the sheet: a February of 28 days is left out.
+fn count_in_sheet(fields: &[u32]) -> usize {
+    if get(fields, 40) == 28 { 40 } else { 41 }
+}
+
 // Writes a sheet, judged by nobody: also one that reading must refuse, which the product's writer does not make; how many
 // bytes it has.
 pub fn write_sheet(fields: &[u32], bytes: &mut [u8]) -> usize {
+    let count = count_in_sheet(fields);
     let mut at: usize = 0;
     let mut i: usize = 0;
-    while i < fields.len() {
-        at = put_groups(bytes, at, fields[i]);
+    while i < count {
+        at = put_groups(bytes, at, get(fields, i));
         i += 1;
     }
     at

@@ -5,7 +5,7 @@
 //!     cargo run --release --manifest-path harness/Cargo.toml --bin bench
 use balladsky::{self as library, Out, OUT};
 use harness::plain::book::{bytes, Entry};
-use harness::random::{self, Dice};
+use harness::random::{self, Dice, Fields};
 use harness::{numbers, plain};
 use std::hint::black_box;
 use std::time::Instant;
@@ -197,8 +197,8 @@ fn table_line(sheet: &[u8]) -> Line<'_> {
     )
 }
 
-fn write_line(sheets: &[[u32; 40]]) -> Line<'_> {
-    let (mut out, mut ours, mut theirs) = ([NOISE; OUT], [0xee; 86], [0xee; 86]);
+fn write_line(sheets: &[Fields]) -> Line<'_> {
+    let (mut out, mut ours, mut theirs) = ([NOISE; OUT], [0xee; 87], [0xee; 87]);
     for fields in sheets {
         out = [NOISE; OUT];
         library::write(fields, &mut ours, &mut out);
@@ -216,6 +216,7 @@ fn main() {
     let sheet = season(300, 2_000, 140, (30, 150), 50);
     let few = season(300, 2_000, 140, (200, 300), 60);
     let many = season(500, 100, 100, (15, 20), 60);
+    let leap = [&sheet[..], &[29]].concat();
     let (two, four, closed, blank) = ([two_byte(0)], [four_byte(0)], [closed_days(275)], [vec![0xff; 8_192]]);
     let (two_left, four_left, closed_left) = ([two_byte(8)], [four_byte(8)], [closed_days(274)]);
     let (uneven, season) = (journals(|j| mixed(j, 0)), journals(|j| usual(j, 275)));
@@ -224,7 +225,7 @@ fn main() {
     let cut_season = journals(|j| torn(64 + j));
     let empty = [Vec::new()];
     let mut g = Dice(1);
-    let fields: Vec<[u32; 40]> = (0..32).map(|_| random::fields(&mut g, 275)).collect();
+    let fields: Vec<Fields> = (0..32).map(|_| random::ordinary(&mut g, 275)).collect();
     let mut lines = vec![
         open_line("8,192 bytes of four-byte entries", library::ACCEPTED, &sheet, &four),
         open_line("8,192 bytes of two-byte entries", library::ACCEPTED, &sheet, &two),
@@ -243,6 +244,7 @@ fn main() {
         plan_line("many", &many, &blank[0][..64]),
         table_line(&sheet),
         open_line("no area (reads the sheet)", library::ACCEPTED, &sheet, &empty),
+        open_line("no area, forty-one numbers", library::ACCEPTED, &leap, &empty),
         write_line(&fields),
     ];
     for l in &mut lines {

@@ -1,11 +1,11 @@
-//! Checks the plain implementation itself: against the documents' own numbers, a second reader and writer of sheets,
-//! slow rules, every choice of waterings in small seasons, the book, and a literal reading of what an opening finds. It
-//! takes some minutes; 10 percent of the rounds take seconds. Status 1 at a mismatch.
+//! Checks the plain implementation itself: against the documents' own numbers, a second reader and writer of sheets, a
+//! list of the year's days, slow rules, every choice of waterings in small seasons, the book, and a literal reading of
+//! what an opening finds. It takes some minutes; 10 percent of the rounds take seconds. Status 1 at a mismatch.
 //!
 //!     cargo run --release --manifest-path harness/Cargo.toml --bin selfcheck [SEED [PERCENT OF THE ROUNDS]]
 use harness::plain::book::{self, Book, Call};
 use harness::plain::*;
-use harness::random::{self, small, with, Dice};
+use harness::random::{self, small, with, Dice, Fields};
 
 struct Tally { compared: u64, wrong: u64 }
 
@@ -46,10 +46,10 @@ fn closes(days: u32) -> Vec<u8> {
     (1..=days).flat_map(|d| book::bytes(book::Entry::Close(d))).collect()
 }
 
-fn opened_after(f: &[u32; 40], entries: &[u8]) -> Ledger {
+fn opened_after(f: &Fields, entries: &[u8]) -> Ledger {
     let mut area = entries.to_vec();
     area.resize(entries.len() + 9, 0xff);
-    match open(&write_sheet(f), &area).opening {
+    match open(&random::sheet(f), &area).opening {
         Opening::Clean(l) => l,
         other => panic!("{other:?}"),
     }
@@ -59,26 +59,26 @@ fn daggers() -> (u64, u64) {
     let mut t = tally();
     // Numbers in the sheet's form: field 39 has room for each of them.
     for (v, bytes) in [(300, &[0xac, 2][..]), (127, &[0x7f]), (128, &[0x80, 1]), (120_000, &[0xc0, 0xa9, 7])] {
-        let sheet = write_sheet(&with(small(127), &[(39, v)]));
+        let sheet = random::sheet(&with(small(127), &[(39, v)]));
         t.same(|| format!("bytes of {v}"), &sheet[sheet.len() - 1 - bytes.len()..sheet.len() - 1], bytes);
-        let deep = write_sheet(&with(small(127), &[(34, 400), (35, 300), (36, 300), (39, v)]));
+        let deep = random::sheet(&with(small(127), &[(34, 400), (35, 300), (36, 300), (39, v)]));
         t.same(|| format!("{v} read back"), read_sheet(&deep).map(|s| s.opening), Ok(v));
-        let r = rain(&write_sheet(&small(127)), &FF[..9], v);
+        let r = rain(&random::sheet(&small(127)), &FF[..9], v);
         t.same(|| format!("rain {v}"), &r.bytes[1..r.count], bytes);
     }
-    let mut sheet = write_sheet(&small(127));
+    let mut sheet = random::sheet(&small(127));
     let at = sheet.len() - 2;
     sheet.splice(at..at + 1, [0x80, 0]);
     t.same(|| "80 00".into(), read_sheet(&sheet).err(), Some((2, at + 1)));
     let without_stores = |opening| Opened { opening, count: 0, places: [0; 3] };
-    t.same(|| "01 80 00".into(), open(&write_sheet(&small(127)), &[1, 0x80, 0, 255, 255]), without_stores(Opening::Refused(9, 0)));
+    t.same(|| "01 80 00".into(), open(&random::sheet(&small(127)), &[1, 0x80, 0, 255, 255]), without_stores(Opening::Refused(9, 0)));
     // Crop need, seen as the first days' use from a full, deep soil.
     let deep = [(34, 400), (35, 300), (36, 300)];
     let kc = |dev: (u32, u32), late: u32| {
         let f = with(with(small(127), &deep), &[(4, 30), (6, 30), (7, dev.0), (8, dev.1), (9, late)]);
         with(f, &(10..=21).map(|i| (i, 450)).collect::<Vec<_>>())
     };
-    let need = |f: &[u32; 40], day| opened_after(f, &closes(day)).used - opened_after(f, &closes(day - 1)).used;
+    let need = |f: &Fields, day| opened_after(f, &closes(day)).used - opened_after(f, &closes(day - 1)).used;
     t.same(|| "development day 10".into(), need(&kc((30, 115), 115), 11), 263);
     t.same(|| "late day 1".into(), need(&kc((120, 120), 35), 33), 527);
     t.same(|| "falling development day 1".into(), need(&kc((120, 35), 35), 2), 527);
@@ -87,14 +87,14 @@ fn daggers() -> (u64, u64) {
         t.same(|| format!("effective {q}"), effective(q), e);
         let f = with(small(127), &[(2, 1), (3, 10), (4, 10), (5, 10), (22, q)]);
         let mut rows = [0; 6 * ROWS];
-        let made = table(&write_sheet(&f), &mut rows);
+        let made = table(&random::sheet(&f), &mut rows);
         t.same(|| format!("January {q}"), (made.rows, rows[3] + rows[9] + rows[15]), (3, e));
     }
     let hundred = [(22, 101)];
     let mut rows = [0; 6 * ROWS];
-    table(&write_sheet(&with(with(small(127), &hundred), &[(1, 12), (2, 29)])), &mut rows);
+    table(&random::sheet(&with(with(small(127), &hundred), &[(1, 12), (2, 29)])), &mut rows);
     t.same(|| "rain of 1 January".into(), &rows[6..10], &[1, 1, rows[8], 3][..]);
-    table(&write_sheet(&with(with(small(127), &hundred), &[(2, 31)])), &mut rows);
+    table(&random::sheet(&with(with(small(127), &hundred), &[(2, 31)])), &mut rows);
     t.same(|| "rain of 31 January".into(), &rows[..4], &[1, 3, rows[2], 4][..]);
     for (d1, u) in [(1_000, 500), (1_001, 499), (1_500, 250)] {
         t.same(|| format!("use at {d1}"), crop_use(500, 2_000, 1_000, d1), u);
@@ -104,7 +104,7 @@ fn daggers() -> (u64, u64) {
     t.same(|| "gross at 45".into(), gross(6_280, 45), 13_956);
     t.same(|| "gross at 75".into(), gross(6_280, 75), 8_374);
     // The torn and the damaged journal.
-    let s = write_sheet(&small(127));
+    let s = random::sheet(&small(127));
     let blank = Ledger { day: 1, ..Ledger::default() };
     let torn = |l, place, count, places| Opened { opening: Opening::Torn(l, place), count, places };
     t.same(|| "01 AC FF FF".into(), open(&s, &[1, 0xac, 255, 255]), torn(blank, 0, 2, [1, 0, 0]));
@@ -119,7 +119,7 @@ fn daggers() -> (u64, u64) {
     t.same(|| "C by day".into(), [1, 2, 3, 4].map(|d| need(&with(small(127), &deep), d)), [200, 500, 500, 300]);
     let planned = |turns| {
         let mut depths = [7; 6];
-        let p = plan(&write_sheet(&small(turns)), &FF[..20], &mut depths);
+        let p = plan(&random::sheet(&small(turns)), &FF[..20], &mut depths);
         (p.number, p.value, p.waterings, p.net, p.gross, depths)
     };
     t.same(|| "turns 127".into(), planned(127), (0, 0, 1, 700, 934, [0, 0, 700, 0, 7, 7]));
@@ -164,9 +164,9 @@ fn stages(sums: [u32; 8]) -> [Stage; 4] {
 }
 
 /// Rape by source document 002: the sheet of Tables 34, 35 and 40, and a journal of the season that Table 79 waters.
-const RAPE: [u32; 40] = [
+const RAPE: Fields = [
     1, 15, 20, 20, 30, 50, 70, 100, 95, 570, 540, 450, 370, 290, 230, 250, 340, 470, 560, 560, 530, 9_200, 8_600, 7_700,
-    2_500, 1_200, 400, 200, 300, 800, 2_900, 6_800, 8_700, 140, 20, 40, 50, 75, 0, 127,
+    2_500, 1_200, 400, 200, 300, 800, 2_900, 6_800, 8_700, 140, 20, 40, 50, 75, 0, 127, 28,
 ];
 const RAPE_JOURNAL: &str = "\
     0301030201980c030303040305030602c00c0307030801ed0b0309030a030b030c01ed0b02a20c030d030e030f031002a20c031103120313\
@@ -183,7 +183,7 @@ fn losses() -> (u64, u64) {
     let (wet, dry, needless) = (small(127), with(small(127), &[(39, 1_500)]), with(small(127), &[(10, 0)]));
     let twos = with(dry, &[(3, 2), (4, 2), (5, 2), (6, 2)]);
     // So many days closed without water: F, U and the stages; then the losses by each Ky.
-    let cases: [([u32; 40], u32, [u32; 2], [u32; 8], &[(u32, [u32; 5])]); 8] = [
+    let cases: [(Fields, u32, [u32; 2], [u32; 8], &[(u32, [u32; 5])]); 8] = [
         (wet, 0, [0, 0], [0; 8], &[(200, [0; 5])]),
         (wet, 4, [1_500, 1_440], [200, 200, 500, 500, 500, 500, 300, 240], &[
             (1, [4, 0, 0, 0, 20]), (100, [400, 0, 0, 0, 2_000]), (200, [800, 0, 0, 0, 4_000]),
@@ -203,7 +203,7 @@ fn losses() -> (u64, u64) {
         t.same(|| format!("{days} days of {f:?}"), ([l.need, l.used], l.stages), (season, stages(by_stage)));
         for &(ky, [season, a, b, c, d]) in by_ky {
             let want = Lost { number: 0, value: 0, season, stages: [a, b, c, d] };
-            t.same(|| format!("Ky {ky}, {days} days of {f:?}"), loss(&write_sheet(&f), &closes(days), ky), want);
+            t.same(|| format!("Ky {ky}, {days} days of {f:?}"), loss(&random::sheet(&f), &closes(days), ky), want);
         }
     }
     let four = [3, 1, 3, 2, 3, 3, 3, 4];
@@ -214,12 +214,12 @@ fn losses() -> (u64, u64) {
     t.same(|| "four days without water".into(), opened_after(&wet, &four), want);
     // Refusals.
     let (torn, torn_later, damaged) = ([1, 0xac, 255, 255], [3, 1, 1, 0xac, 255], [255, 0xac, 255, 255]);
-    let (s, long) = (write_sheet(&wet), [0xff; 8_193]);
-    let refused: [(&[u8], &[u8], u32, u32, usize); 13] = [
+    let (s, long) = (random::sheet(&wet), [0xff; 8_193]);
+    let refused: [(&[u8], &[u8], u32, u32, usize); 14] = [
         (&s, &torn, 0, 17, 0), (&s, &torn, 1, 10, 0), (&s, &torn_later, 201, 17, 0), (&s, &torn_later, 200, 10, 2),
         (&s, &damaged, 0, 9, 0), (&s, &[3, 1, 4], 0, 9, 2), (&s, &long, 201, 8, 0), (&s, &four, 201, 17, 0),
         (&s, &four, 0, 17, 0), (&s, &[], u32::MAX, 17, 0), (&s[..40], &[4], 0, 1, 40), (&[], &long, 0, 1, 0),
-        (&[&s[..], &[9]].concat(), &torn, 201, 3, 41),
+        (&[&s[..], &[9]].concat(), &torn, 201, 4, 41), (&[&s[..], &[29, 9]].concat(), &torn, 201, 3, 42),
     ];
     for (sheet, area, ky, number, value) in refused {
         let want = Lost { number, value, ..Lost::default() };
@@ -234,7 +234,7 @@ fn losses() -> (u64, u64) {
     for (ky, need, used, want) in printed {
         t.same(|| format!("Ky {ky}, {used} of {need}"), [lost(ky, need, used), slow_loss(ky, need, used)], [want; 2]);
     }
-    let rape = write_sheet(&RAPE);
+    let rape = random::sheet(&RAPE);
     let area: Vec<u8> = (0..348).map(|i| u8::from_str_radix(&RAPE_JOURNAL[2 * i..][..2], 16).unwrap()).collect();
     let want = Ledger {
         day: 121, depletion: 2_874, waiting_rain: 0, waiting_irrigation: 0, rain: 24_112, irrigation: 30_840,
@@ -247,13 +247,84 @@ fn losses() -> (u64, u64) {
     t.report("lost yield, document 02's numbers")
 }
 
+// ------------------------------------------------------------------ the days of February
+
+/// Document 02's cases of T-06, then tables and needs from every date by a list of the year's days.
+fn februaries() -> (u64, u64) {
+    let mut t = tally();
+    // Bytes behind the fortieth number of the small sheet, some fields changed.
+    let (day, last, none) = ([(1, 2), (2, 29)], [(1, 2), (2, 28)], []);
+    let behind: [(&[(usize, u32)], &[u8], (u32, usize)); 26] = [
+        (&none, &[], (0, 0)), (&none, &[0x1d], (0, 0)), (&none, &[0x1c], (4, 41)), (&none, &[0x1e], (4, 41)),
+        (&none, &[0], (4, 41)), (&none, &[0x9d, 1], (4, 41)), (&none, &[0x9d], (1, 42)), (&none, &[0x9d, 0], (2, 42)),
+        (&none, &[0x80, 0x80], (1, 43)), (&none, &[0x80, 0x80, 0x80], (2, 43)), (&none, &[0x1d, 0], (3, 42)),
+        (&none, &[0x1e, 0], (3, 42)), (&none, &[0xff], (1, 42)), (&none, &[0xff; 2], (1, 43)), (&none, &[0xff; 3], (2, 43)),
+        (&day, &[], (4, 2)), (&day, &[28], (4, 2)), (&day, &[30], (4, 2)), (&day, &[0xc8, 1], (4, 2)), (&day, &[29], (0, 0)),
+        (&last, &[28], (4, 41)), (&last, &[30], (4, 41)), (&[(1, 2), (2, 30)], &[29], (4, 2)),
+        (&[(1, 13), (2, 29)], &[30], (4, 1)), (&[(40, 128)], &[30], (4, 40)), (&[(35, 21)], &[30], (4, 41)),
+    ];
+    for (changes, bytes, want) in behind {
+        let sheet = [write_sheet(&with(small(127), changes)[..40]), bytes.to_vec()].concat();
+        let what = |who: &str| format!("{who}, {changes:?} and {bytes:02x?}");
+        t.same(|| what("reader"), read_sheet(&sheet).map_or_else(|e| e, |_| (0, 0)), want);
+        t.same(|| what("second reader"), slow_sheet(&sheet).map_or_else(|e| e, |_| (0, 0)), want);
+    }
+    // A season from 27 February: rows, depths and totals, and the depletion after each close without water.
+    let seasons = [
+        (28, "2 3 700 600 100 134\n3 1 1600 541 1059 1412\n", [0, 0, 230, 729, 7], (2, 959, 1_279), [200, 700, 1_700, 1_880]),
+        (29, "2 3 1200 869 331 442\n3 1 600 270 330 440\n", [0, 0, 0, 440, 7], (1, 440, 587), [200, 700, 1_200, 1_680]),
+    ];
+    for (february, rows, depths, totals, depletions) in seasons {
+        let (f, mut got) = (random::leap(february), [7; 5]);
+        let p = plan(&random::sheet(&f), &FF[..20], &mut got);
+        t.same(|| format!("table, {february}"), printed(&random::sheet(&f)), rows.into());
+        t.same(|| format!("plan, {february}"), (p.number, (p.waterings, p.net, p.gross), got), (0, totals, depths));
+        let after = [1, 2, 3, 4].map(|days| opened_after(&f, &closes(days)).depletion);
+        t.same(|| format!("depletions, {february}"), after, depletions);
+    }
+    // ETo is the month's number, Kc 1 and rain unlike in each month.
+    for february in [28, 29] {
+        let lengths = [31, february, 31, 30, 31, 30, 31, 31, 30, 31, 30, 31];
+        let year: Vec<(u32, u32)> = (1..).zip(lengths).flat_map(|(month, days)| (1..=days).map(move |date| (month, date))).collect();
+        for (start, &(month, date)) in year.iter().enumerate() {
+            let mut f = with(small(127), &[(1, month), (2, date), (3, 45), (4, 70), (5, 90), (6, 70), (41, february)]);
+            f[6..9].fill(100);
+            for m in 0..12 {
+                (f[9 + m], f[21 + m]) = (m as u32 + 1, 777 * (m as u32 + 1));
+            }
+            let s = read_sheet(&random::sheet(&f)).unwrap();
+            let (mut want, mut needs) = (Vec::<[u32; 4]>::new(), 0);
+            for day in 1..=275 {
+                let (month, date) = year[(start + day as usize - 1) % year.len()];
+                let (decade, e) = ((date + 9) / 10, effective(777 * month));
+                let row = [month, decade.min(3)];
+                if want.last().is_none_or(|last| last[..2] != row) {
+                    want.push([row[0], row[1], 0, 0]);
+                }
+                let last = want.last_mut().unwrap();
+                last[2] += month;
+                last[3] += e * date / lengths[month as usize - 1] - e * (date - 1) / lengths[month as usize - 1];
+                needs += month;
+                let found = book::calendar(&s, day);
+                t.same(|| format!("day {day} of {f:?}"), (found.0 as u32 + 1, found.1), (month, date));
+            }
+            let mut rows = [0; 6 * ROWS];
+            let made = table(&random::sheet(&f), &mut rows);
+            let got: Vec<[u32; 4]> = rows[..6 * made.rows].chunks(6).map(|r| [r[0], r[1], r[2], r[3]]).collect();
+            t.same(|| format!("rows of {f:?}"), got, want);
+            t.same(|| format!("needs of {f:?}"), opened_after(&f, &closes(275)).need, needs);
+        }
+    }
+    t.report("the days of February")
+}
+
 // ------------------------------------------------------------------ random sheets
 
-/// The sheet read a second time, byte by byte and by the list of refusals.
-fn slow_sheet(sheet: &[u8]) -> Result<[u32; 40], (u32, usize)> {
-    let (mut f, mut field, mut shift) = ([0u32; 40], 0, 0);
+/// The sheet read a second time, byte by byte and by the list of refusals; 28 days of February where it has none.
+fn slow_sheet(sheet: &[u8]) -> Result<Fields, (u32, usize)> {
+    let (mut f, mut field, mut shift) = ([0u32; 41], 0, 0);
     for (at, &b) in sheet.iter().enumerate() {
-        if field == 40 {
+        if field == 41 {
             return Err((3, at));
         }
         f[field] += (b as u32 % 128) << shift;
@@ -269,18 +340,27 @@ fn slow_sheet(sheet: &[u8]) -> Result<[u32; 40], (u32, usize)> {
             (field, shift) = (field + 1, 0);
         }
     }
-    if field < 40 {
+    if field < 40 || shift > 0 {
         return Err((1, sheet.len()));
     }
-    slow_fields(&f).map(|()| f)
+    if field == 40 {
+        f[40] = 28;
+        return slow_fields(&f, 28..=28).map(|()| f);
+    }
+    slow_fields(&f, 29..=29).map(|()| f)
 }
 
-/// Forty numbers by the list of refusals, 4 to 7.
-fn slow_fields(f: &[u32; 40]) -> Result<(), (u32, usize)> {
-    for i in 1..=40usize {
+/// Forty numbers and the days of February, which may be these, by the list of refusals, 4 to 7.
+fn slow_fields(f: &Fields, february: std::ops::RangeInclusive<u32>) -> Result<(), (u32, usize)> {
+    for i in 1..=41usize {
         let (low, high) = match i {
             1 => (1, 12),
-            2 => (1, MONTHS[f[0] as usize - 1]),
+            2 => match (f[0], f[40]) {
+                (2, 29) => (1, 29),
+                (2, _) => (1, 28),
+                (4 | 6 | 9 | 11, _) => (1, 30),
+                _ => (1, 31),
+            },
             3..=6 => (1, 200),
             7..=9 => (10, 200),
             10..=21 => (0, 1_500),
@@ -290,7 +370,8 @@ fn slow_fields(f: &[u32; 40]) -> Result<(), (u32, usize)> {
             37 => (5, 80),
             38 => (1, 100),
             39 => (0, 120_000),
-            _ => (0, 127),
+            40 => (0, 127),
+            _ => (*february.start(), *february.end()),
         };
         if f[i - 1] < low || f[i - 1] > high {
             return Err((4, i));
@@ -310,22 +391,24 @@ fn slow_fields(f: &[u32; 40]) -> Result<(), (u32, usize)> {
 
 fn sheet_bytes(g: &mut Dice, percent: u32) -> (u64, u64) {
     let mut t = tally();
-    let mut seen = [0u32; 9];
-    for _ in 0..2_000 * percent {
+    let (mut seen, mut leap, mut of_41, mut leap_days) = ([0u32; 9], 0, 0, 0);
+    for _ in 0..3_000 * percent {
         let days = g.pick(&[4, 30, DAYS as u32]);
-        let mut sheet = write_sheet(&random::spoilt_fields(g, days));
-        random::spoil_sheet(g, &mut sheet);
+        let sheet = random::any_sheet(g, days);
         let want = slow_sheet(&sheet);
         seen[want.map_or_else(|e| e.0, |_| 0) as usize] += 1;
+        leap += want.is_ok_and(|f| f[40] == 29) as u32;
+        leap_days += want.is_ok_and(|f| f[..2] == [2, 29]) as u32;
+        of_41 += (want == Err((4, 41))) as u32;
         let got = read_sheet(&sheet);
         t.same(|| format!("sheet {sheet:02x?}"), got.as_ref().map(|s| s.days).map_err(|e| *e), want.map(|f| f[2] + f[3] + f[4] + f[5]));
         if let (Ok(s), Ok(f)) = (got, want) {
             let back: Vec<u32> = [s.month as u32 + 1, s.date].into_iter().chain(s.stages).chain(s.kc).chain(s.eto).chain(s.rain)
-                .chain([s.available, s.sown, s.full, s.fraction, s.efficiency, s.opening, s.turns]).collect();
+                .chain([s.available, s.sown, s.full, s.fraction, s.efficiency, s.opening, s.turns, s.february]).collect();
             t.same(|| format!("fields {f:?}"), back, f.to_vec());
         }
     }
-    println!("sheets by refusal, 0 accepted: {:?}", &seen[..8]);
+    println!("sheets by refusal, 0 accepted: {:?}; {leap} with 29 days of February, {leap_days} that start on the last; {of_41} refused 4 41", &seen[..8]);
     t.report("sheet bytes, second reader")
 }
 
@@ -339,20 +422,27 @@ fn slow_bytes(v: u32) -> Vec<u8> {
 fn writer(g: &mut Dice, percent: u32) -> (u64, u64) {
     let mut t = tally();
     let small_bytes = [&[1, 9, 1, 1, 1, 1, 0x28, 0x64, 0x3c, 0xf4, 3][..], &[0; 23], &[0x64, 0x14, 0x14, 0x32, 0x4b, 0, 0x7f]].concat();
-    let mut longest = [0; 40];
+    let mut longest = [0; 41];
     longest[..9].copy_from_slice(&[12, 31, 128, 128, 10, 9, 200, 200, 200]);
     longest[9..21].fill(1_500);
     longest[21..33].fill(60_000);
-    longest[33..].copy_from_slice(&[400, 300, 300, 80, 100, 120_000, 127]);
-    let mut shortest = [0; 40];
+    longest[33..].copy_from_slice(&[400, 300, 300, 80, 100, 120_000, 127, 28]);
+    let mut shortest = [0; 41];
     shortest[..9].copy_from_slice(&[1, 1, 1, 1, 1, 1, 10, 10, 10]);
-    shortest[33..].copy_from_slice(&[1, 10, 10, 5, 1, 0, 0]);
+    shortest[33..].copy_from_slice(&[1, 10, 10, 5, 1, 0, 0, 28]);
+    let leap_day = |february| with(small(127), &[(1, 2), (2, 29), (41, february)]);
     let cases = [
         (small(127), 41, (0, 0, 41)), (small(127), 50, (0, 0, 41)), (small(127), 40, (15, 0, 0)),
         (with(small(127), &[(2, 32)]), 0, (4, 2, 0)), (with(small(127), &[(10, u32::MAX)]), 0, (4, 10, 0)),
         (with(small(127), &[(3, 76), (4, 100), (5, 50), (6, 50)]), 0, (5, 0, 0)),
         (with(small(127), &[(35, 21)]), 0, (6, 0, 0)), (with(small(127), &[(39, 2_001)]), 0, (7, 0, 0)),
         (longest, 86, (0, 0, 86)), (longest, 85, (15, 0, 0)), (shortest, 40, (0, 0, 40)), (shortest, 39, (15, 0, 0)),
+        (with(longest, &[(41, 29)]), 87, (0, 0, 87)), (with(longest, &[(41, 29)]), 86, (15, 0, 0)),
+        (with(small(127), &[(41, 29)]), 50, (0, 0, 42)), (with(small(127), &[(41, 29)]), 41, (15, 0, 0)),
+        (with(small(127), &[(41, 30)]), 0, (4, 41, 0)), (with(small(127), &[(41, 0)]), 50, (4, 41, 0)),
+        (with(small(127), &[(41, u32::MAX)]), 50, (4, 41, 0)), (with(small(127), &[(40, 128), (41, 30)]), 50, (4, 40, 0)),
+        (with(small(127), &[(35, 21), (41, 30)]), 50, (4, 41, 0)), (leap_day(28), 50, (4, 2, 0)), (leap_day(30), 50, (4, 2, 0)),
+        (leap_day(29), 50, (0, 0, 42)),
     ];
     for (f, room, (number, value, bytes)) in cases {
         let mut sheet = vec![0xee; room];
@@ -363,14 +453,15 @@ fn writer(g: &mut Dice, percent: u32) -> (u64, u64) {
         }
     }
     let mut seen = [0u32; 16];
-    for _ in 0..1_000 * percent {
+    for _ in 0..1_400 * percent {
         let days = g.pick(&[4, 30, DAYS as u32]);
         let f = random::any_fields(g, days);
-        let made: Vec<u8> = f.iter().flat_map(|&v| slow_bytes(v)).collect();
-        for room in [made.len() - 1, made.len(), 86, 120] {
+        let numbers = if f[40] == 28 { 40 } else { 41 };
+        let made: Vec<u8> = f[..numbers].iter().flat_map(|&v| slow_bytes(v)).collect();
+        for room in [made.len() - 1, made.len(), 87, 120] {
             let noise = g.next() as u8;
             let (mut got, mut want) = (vec![noise; room], vec![noise; room]);
-            let w = match slow_fields(&f) {
+            let w = match slow_fields(&f, 28..=29) {
                 Err((number, value)) => Written { number, value, bytes: 0 },
                 Ok(()) if room < made.len() => Written { number: 15, value: 0, bytes: 0 },
                 Ok(()) => {
@@ -393,7 +484,7 @@ fn long_seasons(g: &mut Dice, percent: u32) -> (u64, u64) {
     let (mut refused, mut stressed) = (0, 0);
     for _ in 0..30 * percent {
         let f = random::fields(g, DAYS as u32);
-        let sheet = write_sheet(&f);
+        let sheet = random::sheet(&f);
         let s = read_sheet(&sheet).unwrap();
         let mut rows: Vec<[u32; 6]> = Vec::new();
         for day in 1..=s.days {
@@ -527,7 +618,7 @@ fn brute(g: &mut Dice, percent: u32) -> (u64, u64) {
         }
         f[38] = g.of(0, day1 * f[36] / 100);
         f[39] = g.of(0, 127) | g.of(0, 127);
-        let sheet = write_sheet(&f);
+        let sheet = random::sheet(&f);
         let s = read_sheet(&sheet).unwrap();
         let (area, l) = random::journal(g, &s, &sheet, 80);
         if l.day > s.days {
@@ -630,7 +721,7 @@ fn histories(g: &mut Dice, percent: u32) -> (u64, u64) {
         histories += 1;
         let (long, fill) = (histories % 16 == 0, histories % 160 == 0);
         let f = random::fields(g, if long { DAYS as u32 } else { 12 });
-        let sheet = write_sheet(&f);
+        let sheet = random::sheet(&f);
         let season = read_sheet(&sheet).unwrap();
         let length = if fill { 8_192 } else if long { g.pick(&[900, 1_500, 8_192]) } else { g.of(0, 90) as usize };
         let mut area = vec![0xff; length];
@@ -702,7 +793,7 @@ fn any_bytes(g: &mut Dice, percent: u32) -> (u64, u64) {
     let amounts: Vec<Vec<u8>> = (1..=120_000).map(|v| book::bytes(book::Entry::Rain(v))).collect();
     for round in 0..200 * percent {
         let f = random::fields(g, g_days(round));
-        let sheet = write_sheet(&f);
+        let sheet = random::sheet(&f);
         let s = read_sheet(&sheet).unwrap();
         let area = random::any_journal(g, &s, &sheet, 1_300);
         let room = area.len();
@@ -763,9 +854,9 @@ fn any_bytes(g: &mut Dice, percent: u32) -> (u64, u64) {
         t.same(|| format!("loss {ky} of {area:02x?} of {f:?}"), loss(&sheet, &area, ky), slow_losses(want, ky));
     }
     println!("any bytes: clean {}, torn {}, damaged {}", seen[0], seen[1], seen[2]);
-    t.same(|| "8,193 bytes".into(), open(&write_sheet(&small(1)), &[0xff; 8_193]).opening, Opening::Refused(8, 0));
+    t.same(|| "8,193 bytes".into(), open(&random::sheet(&small(1)), &[0xff; 8_193]).opening, Opening::Refused(8, 0));
     // Cuts after one and after two stores of 01 FF 01 leave the same area and different loose bytes.
-    let (sheet, mut area) = (write_sheet(&small(1)), [0xff; 8]);
+    let (sheet, mut area) = (random::sheet(&small(1)), [0xff; 8]);
     area[0] = 1;
     for done in 1..=2 {
         let mut b = Book::new(read_sheet(&sheet).unwrap(), 8);
@@ -775,7 +866,7 @@ fn any_bytes(g: &mut Dice, percent: u32) -> (u64, u64) {
             t.same(|| "01 FF".into(), asked(&sheet, &area, call), b.answer(call));
         }
     }
-    t.same(|| "no bytes".into(), close(&write_sheet(&small(1)), &[]).number, 14);
+    t.same(|| "no bytes".into(), close(&random::sheet(&small(1)), &[]).number, 14);
     t.report("any bytes, literal opening")
 }
 
@@ -788,7 +879,7 @@ fn main() {
     let percent = std::env::args().nth(2).map_or(100, |s| s.parse().unwrap());
     println!("seed {seed}, {percent} percent");
     let mut g = Dice(seed);
-    let parts = [daggers(), losses(), sheet_bytes(&mut g, percent), writer(&mut g, percent),
+    let parts = [daggers(), losses(), februaries(), sheet_bytes(&mut g, percent), writer(&mut g, percent),
         long_seasons(&mut g, percent), brute(&mut g, percent), histories(&mut g, percent), any_bytes(&mut g, percent)];
     let (compared, wrong) = parts.iter().fold((0, 0), |a, p| (a.0 + p.0, a.1 + p.1));
     println!("in all: {compared} compared, {wrong} mismatches");
