@@ -40,7 +40,8 @@
  * the plan and the loss are refused 10.
  *
  * STACK, THREADS AND SIGNALS
- *   Stack on x86-64, beside what memcpy and memset take: the plan less than 2.7 KB, every other call less than 1.2 KB.
+ *   Stack on x86-64, beside what memcpy and memset take: the plan less than 2,800 bytes, every other call less than
+ *   1,300.
  *   Where memcpy and memset are bound lazily, the first call that uses one takes some 3 KB more, once: link with
  *   -z now, or statically, and it does not.
  *   No heap, no globals, no locks, no recursion, no system call: calls on different buffers may run at once in any
