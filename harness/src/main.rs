@@ -326,10 +326,11 @@ fn longest(t: &mut Tally, g: &mut Dice) {
 }
 
 /// Areas of every length from 0 to 8,193: full of entries as far as they go, blank, or blank but for the last byte. Each
-/// with 28 days of February and with 29, in a season that starts before them.
+/// in a season from any date, and in one over February with 28 days and with 29.
 fn lengths(t: &mut Tally, g: &mut Dice) {
-    let f = random::with(random::fields(g, 275), &[(1, 1), (2, 20), (3, 45), (4, 70), (5, 90), (6, 70), (39, 0)]);
-    let sheets = [28, 29].map(|february| random::sheet(&random::with(f, &[(41, february)])));
+    let f = random::with(random::fields(g, 275), &[(3, 45), (4, 70), (5, 90), (6, 70), (39, 0)]);
+    let over = |february| random::with(f, &[(1, 1), (2, 20), (41, february)]);
+    let sheets = [f, over(28), over(29)].map(|f| random::sheet(&f));
     let mut full = Vec::new();
     for day in 1..=275 {
         for _ in 0..g.of(6, 14) {
