@@ -108,7 +108,7 @@ pub fn first_total(s: Season) -> u32
 }
 
 // Root depth Z on a season day: roots are full grown on day G.
-fn root_depth(s: Season, t: SeasonDay) -> u32
+pub fn root_depth(s: Season, t: SeasonDay) -> u32
     requires { ⌜ Valid s ⌝ }
     requires { ⌜ OnDay s t ⌝ }
     ensures { λ r. ⌜ r ≡ rootOn s (t .number) ⌝ }

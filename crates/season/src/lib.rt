@@ -21,6 +21,7 @@ pub use day::first_total;
 pub use day::kc_of;
 pub use day::rain_to;
 pub use day::ready_on;
+pub use day::root_depth;
 pub use day::stage_of;
 pub use day::total_on;
 pub use depths::gross_of;
