@@ -3,7 +3,8 @@ use mathlib.Core.Path.{_≡_, refl, sym, ap, _∙_, subst⁻¹}
 use mathlib.Core.List.{List, [], map}
 use Prim.Native.Nat.{ℕ, _≤_}
 use native.Mathlib.Omega.{arith}
-use lib.ListN.{length, drop}
+use lib.Ieee.{ofBits, le}
+use lib.ListN.{length, drop, set}
 use Rattle.season.specs.declared.Season.{Season}
 use Rattle.season.specs.Rules.{ramp, rampZ}
 use Rattle.season.specs.Calendar.{nextDay, daysOn}
@@ -15,9 +16,10 @@ use Rattle.verdict.specs.Refusals.{orRefused, verdictOf}
 use Rattle.leb128.specs.Groups.{encode, overGroups, overIn, groupCount}
 use Rattle.leb128.specs.Forms.{decode, decodeFrom, below}
 use Rattle.sheet.specs.Numbers.{before, numbers, after, further, ended, numbersIn, written}
-use Rattle.fields.specs.Fields.{outside, lowestOutside}
+use Rattle.fields.specs.Fields.{outside, lowestOutside, seasonOf}
 use Rattle.fields.specs.Refusals.{fieldsVerdict}
-use Rattle.sheet.specs.Sheets.{sheetOf}
+use Rattle.sheet.specs.Sheets.{sheetIs, sheetOf}
+use Rattle.sheet.specs.Cases.{small}
 use Rattle.sheet.proofs.Claims as sheets
 use Rattle.journal.specs.declared.Entry.{Entry}
 use Rattle.journal.specs.declared.Opening.{Opening}
@@ -46,13 +48,19 @@ use Rattle.decades.specs.declared.Tabled.{Tabled}
 use Rattle.decades.specs.declared.Tabled.the-variants as table
 use Rattle.decades.specs.Table.{dayRow, withDay, rowsTo, six, flat, tabled}
 use Rattle.planner.proofs.Claims as plans
-use Rattle.controller.specs.Calls.{plannedOn, sheetOpened, sheetRecorded, sheetPlanned, sheetTabled, onSheet}
-use Rattle.controller.specs.Refusals.{openLines, lossLines, entryLines, planLines, tableLines}
-use Rattle.controller.specs.Cases.{cases, leapCases}
+use Rattle.probes.specs.Contents.{isContent, tenThousandths, contentOf, pairOf, readingOf}
+use Rattle.probes.specs.Depletion.{measured}
+use Rattle.probes.proofs.Claims as probings
+use Rattle.controller.specs.declared.Probed.{Probed}
+use Rattle.controller.specs.declared.Probed.the-variants.{Depletions}
+use Rattle.controller.specs.declared.Probed.the-variants as probed
+use Rattle.controller.specs.Calls.{plannedOn, probedOn, probedNumbers, sheetOpened, sheetRecorded, sheetPlanned, sheetTabled, onSheet}
+use Rattle.controller.specs.Refusals.{openLines, lossLines, entryLines, planLines, probeLines, tableLines}
+use Rattle.controller.specs.Cases.{cases, leapCases, probeCases}
 use Rattle.controller.specs.Claims.{Claims}
 use Rattle.controller.proofs.Sheets.{on-sheet}
 use Rattle.controller.proofs.Demands.{opens, plan-right, demand-3}
-use Rattle.controller.proofs.Refusing.{sheet-verdict, numbers-refused, planVerdict, tableVerdict, open-verdict, entry-verdict, loss-verdict, plan-verdict, table-verdict, entry-refused, plan-refused-keeps, table-refused-keeps}
+use Rattle.controller.proofs.Refusing.{sheet-verdict, numbers-refused, planVerdict, tableVerdict, open-verdict, entry-verdict, loss-verdict, plan-verdict, probe-verdict, table-verdict, entry-refused, plan-refused-keeps, table-refused-keeps}
 
 -- The calls' two ways: a refused sheet, and an accepted season.
 module _ (sheet : List ℕ) where
@@ -126,6 +134,29 @@ leap-cases-hold : map (λ (c : List ℕ × List ℕ). c .0) leapCases ≡ map (�
 unfolding leapCases season.leap onSheet closing closeDay stageOf inStage encode overGroups overIn groupCount tabled rowsTo withDay dayRow six flat plannedOn decode decodeFrom below orRefused opening replayed replay behind isBlank trim tornAt entryAt entryOf only value least starts start enter refusal accepts passes tagOf sourceTag numberOf journal.outside opened openedOn wipePlaces openedNumbers wipesIn answer answerTo byWalks onWalk pad walk ending watered irrigated sum dateOf kcOf cropNeed rainOn nextDay daysOn ramp rampZ
 leap-cases-hold = rw (sheets.claims .leap-read .0, sheets.claims .leap-read .1) refl
 
+-- The small sheet with full roots of 20 and of 40 cm is accepted.
+probed-read : (full : ℕ) → fieldsVerdict (set small 35 full) ≡ verdict.Accepted → sheetOf (written (set small 35 full)) ≡ sheetIs (seasonOf (set small 35 full)) verdict.Accepted
+probed-read full = sheets.claims .written-accepted (set small 35 full) (omega arith) (omega arith)
+
+probed-read-20 : sheetOf (written (set small 35 20)) ≡ sheetIs (seasonOf (set small 35 20)) verdict.Accepted
+unfolding fieldsVerdict lowestOutside outside orRefused
+probed-read-20 = probed-read 20 refl
+
+probed-read-40 : sheetOf (written (set small 35 40)) ≡ sheetIs (seasonOf (set small 35 40)) verdict.Accepted
+unfolding fieldsVerdict lowestOutside outside orRefused
+probed-read-40 = probed-read 40 refl
+
+probe-cases-hold : map (λ (c : List ℕ × List ℕ). c .0) probeCases ≡ map (λ (c : List ℕ × List ℕ). c .1) probeCases
+unfolding probeCases onSheet probedOn readingOf pairOf contentOf isContent tenThousandths measured le ofBits closing closeDay stageOf inStage decode decodeFrom below encode overGroups overIn groupCount orRefused opening replayed replay behind isBlank trim tornAt entryAt entryOf only value least starts start enter refusal accepts passes tagOf sourceTag numberOf journal.outside dateOf kcOf cropNeed nextDay daysOn ramp rampZ
+probe-cases-hold = rw (probed-read-20, probed-read-40) refl
+
+-- Different answers of probe have different numbers.
+probed-one : (a b : Probed) → probedNumbers a ≡ probedNumbers b → a ≡ b
+probed-one (Depletions l m) (Depletions n o) e = let p : l ≡ n = cc in let q : m ≡ o = cc in rw (p, q)
+probed-one (Depletions l m) (probed.Refused number value) e = absurd (omega (arith, ap length e))
+probed-one (probed.Refused number value) (Depletions l m) e = absurd (omega (arith, ap length e))
+probed-one (probed.Refused m w) (probed.Refused number value) e = let p : m ≡ number = cc in let q : w ≡ value = cc in rw (p, q)
+
 pub claims : Claims
 unfolding recordedWith
 claims = record {
@@ -138,6 +169,8 @@ claims = record {
       sheet-verdict (λ (r : Lost). verdictOf (lossNumbers r)) losing.Refused (λ s. lost s area ky) sheet (lossLines area ky) numbers-refused (λ s o. loss-verdict s area ky);
   plan-refuses = λ sheet area out.
       sheet-verdict planVerdict (λ number value. (planned.Refused number value, out)) (λ s. plannedOn s out (opening s area)) sheet (planLines area (length out)) numbers-refused (λ s o. plan-verdict s area out);
+  probe-refuses = λ sheet area shallow deep f.
+      sheet-verdict (λ (r : Probed). verdictOf (probedNumbers r)) probed.Refused (λ s. probedOn s (readingOf shallow deep) f (opening s area)) sheet (probeLines area shallow deep f) numbers-refused (λ s o. probe-verdict s area shallow deep f);
   table-refuses = λ sheet out.
       sheet-verdict tableVerdict (λ number value. (table.Refused number value, out)) (λ s. tabled s out) sheet (tableLines (length out)) numbers-refused (λ s o. table-verdict s out);
   write-refuses = sheets.claims .write-refuses;
@@ -150,6 +183,7 @@ claims = record {
   torn-stores = torn-stores;
   plan-right = λ sheet area out l v o day room. plan-right sheet v area out l (sym (opens sheet v area) ∙ o) day room;
   planning = plans.claims;
+  probing = probings.claims;
   sheet-as-written = sheets.claims .accepted-as-written;
   written-as-sheet = sheets.claims .written-accepted;
   one-spelling = sheets.claims .one-spelling;
@@ -159,6 +193,8 @@ claims = record {
   opening-says = λ sheet area v h. subst⁻¹ (Opens (sheetOf sheet .season) area) (opens sheet v area) (journals.claims .opening-says (sheetOf sheet .season) area h);
   opened-occurs = opened-occurs;
   recorded-occurs = recorded-occurs;
+  probed-one-to-one = probed-one;
   cases-hold = cases-hold;
   leap-cases-hold = leap-cases-hold;
+  probe-cases-hold = probe-cases-hold;
 }

@@ -9,6 +9,7 @@ use lib.Seq.{take-at}
 use borrow.Author.Tests.{le-ltb}
 use Rattle.season.specs.declared.Season.{Season}
 use Rattle.season.specs.Sheet.{seasonDays}
+use Rattle.season.specs.Day.{rootOn, totalOn}
 use Rattle.verdict.specs.declared.Verdict.the-variants as verdict
 use Rattle.verdict.specs.Refusals.{orRefused}
 use Rattle.sheet.specs.Sheets.{sheetOf}
@@ -33,7 +34,13 @@ use Rattle.planner.specs.Plan.{Plan, depths, refused}
 use Rattle.planner.specs.Outlook.{outlook, daysLeft}
 use Rattle.planner.specs.Answer.{numbersOf, answerTo, answer}
 use Rattle.planner.proofs.Claims as plans
-use Rattle.controller.specs.Calls.{plannedOn, sheetOpened, sheetLost, sheetPlanned}
+use Rattle.probes.specs.declared.Probe.{Probe}
+use Rattle.probes.specs.declared.Reading.the-variants.{Content}
+use Rattle.probes.specs.Contents.{readingOf}
+use Rattle.probes.specs.Depletion.{measured}
+use Rattle.controller.specs.declared.Probed.the-variants.{Depletions}
+use Rattle.controller.specs.declared.Probed.the-variants as probed
+use Rattle.controller.specs.Calls.{plannedOn, probedOn, sheetOpened, sheetLost, sheetPlanned, sheetProbed}
 use Rattle.controller.specs.Refusals.{planOf}
 use Rattle.controller.specs.Demands.{calls, numbered, PlanKept, Demand3}
 use Rattle.controller.proofs.Sheets.{sheet-accepted}
@@ -131,6 +138,15 @@ module _ (sheet : List ℕ) (v : sheetOf sheet .verdict ≡ verdict.Accepted) wh
       sheet-accepted losing.Refused (λ t. lost t area ky) sheet (sheetOf sheet) refl v
       ∙ rw (o, lostOn, le-ltb ky 1 low, le-ltb 200 ky high)
 
+  -- On a clean journal with an open day a content is answered beside the ledger's depletion.
+  probes-clean : (area : List ℕ) (shallow deep : Probe) (f w : ℕ) (l : Ledger) → opening s area ≡ found.Clean l → 1 ≤ f → f ≤ 6000
+      → readingOf shallow deep ≡ Content w → l .day ≤ seasonDays s
+      → sheetProbed sheet area shallow deep f ≡ Depletions (l .depletion) (measured f w (rootOn s (l .day)) (totalOn s (l .day)))
+  unfolding probedOn orRefused
+  probes-clean area shallow deep f w l o low high r day =
+      sheet-accepted probed.Refused (λ t. probedOn t (readingOf shallow deep) f (opening t area)) sheet (sheetOf sheet) refl v
+      ∙ rw (o, r, probedOn, le-ltb (seasonDays s) (l .day) day, le-ltb f 1 low, le-ltb 6000 f high)
+
   pub demand-3 : (size : ℕ) → size ≤ 8192 → (steps : List Step) (out : List ℕ) → Demand3 sheet size steps out
   unfolding foundIn
   demand-3 size h steps out =
@@ -144,4 +160,5 @@ module _ (sheet : List ℕ) (v : sheetOf sheet .verdict ≡ verdict.Accepted) wh
         kept = kept;
         plans = λ none day room. plan-right area out (ledgerOf s k) (clean none) day room;
         losses = λ ky low high none. losses-clean area ky (ledgerOf s k) (clean none) low high;
+        probes = λ shallow deep f w low high r none day. probes-clean area shallow deep f w (ledgerOf s k) (clean none) low high r day;
       }

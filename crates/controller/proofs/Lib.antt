@@ -1,5 +1,6 @@
 pub mod Sheets
 pub mod Plans
+pub mod Probing
 pub mod Demands
 pub mod Refusing
 pub mod Claims

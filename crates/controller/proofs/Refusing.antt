@@ -1,6 +1,6 @@
 -- Demand 1: each call's verdict is the first of its lines that applies.
-use mathlib.Core.Path.{_≡_, refl, sym, _∙_, ap}
-use mathlib.Core.Bool.{Bool, true, false, cond}
+use mathlib.Core.Path.{_≡_, refl, sym, _∙_, ap, ap₂}
+use mathlib.Core.Bool.{Bool, true, false, _||_, cond}
 use mathlib.Core.List.{List, [], _∷_, _++_}
 use Prim.Native.Nat.{ℕ, _*_, _≤_, _<_}
 use native.Mathlib.Omega.{arith}
@@ -9,13 +9,13 @@ use lib.ListN.{length, drop, length-append}
 use borrow.Author.Tests.{lt-ltb, le-ltb}
 use Rattle.season.specs.declared.Season.{Season}
 use Rattle.season.specs.Sheet.{seasonDays}
-use Rattle.season.specs.Day.{AcceptedSeason}
+use Rattle.season.specs.Day.{rootOn, totalOn, AcceptedSeason}
 use Rattle.season.specs.Loss.{kyOutside}
 use Rattle.season.proofs.Whole.{by-order}
 use Rattle.verdict.specs.declared.Verdict.{Verdict}
 use Rattle.verdict.specs.declared.Verdict.the-variants.{Accepted, Refused}
 use Rattle.verdict.specs.Refusals.{orRefused, firstOf, verdictOf}
-use Rattle.verdict.proofs.First.{Refusal, first-append, first-refused, first-refusal, refused-accepted}
+use Rattle.verdict.proofs.First.{Refusal, Lines, first-append, first-refused, first-holds, first-fails, first-refusal, refused-accepted}
 use Rattle.verdict.proofs.Claims as verdicts
 use Rattle.sheet.specs.Sheets.{sheetOf}
 use Rattle.sheet.specs.Refusals.{sheetLines}
@@ -31,7 +31,6 @@ use Rattle.journal.specs.Opening.{opening}
 use Rattle.journal.specs.Specified.{bytesAll, Says}
 use Rattle.journal.specs.Specified as said
 use Rattle.journal.specs.Calls.{noStores, recordedWith, storesOf, recordedOn, recorded, opened}
-use Rattle.journal.specs.declared.Losses.{Losses}
 use Rattle.journal.specs.Loss as yield
 use Rattle.journal.specs.Loss.{lossesOf, lossRefusals, lostUnless, lostOn, lossNumbers}
 use Rattle.journal.proofs.Answers.{opened-opening}
@@ -48,8 +47,14 @@ use Rattle.decades.specs.declared.Tabled.{Tabled}
 use Rattle.decades.specs.declared.Tabled.the-variants as table
 use Rattle.decades.specs.Table as definition
 use Rattle.decades.proofs.Claims as tables
-use Rattle.controller.specs.Calls.{onSheet, plannedOn}
-use Rattle.controller.specs.Refusals.{Line, onLines, damaged, tornLine, ledgerIn, openLines, lossLines, entryLines, lost, planOf, roomLines, planLines, tableLines}
+use Rattle.probes.specs.declared.Probe.{Probe}
+use Rattle.probes.specs.declared.Reading.{Reading}
+use Rattle.probes.specs.Contents.{readingOf, contentIn}
+use Rattle.probes.specs.Depletion.{measured}
+use Rattle.probes.proofs.Claims as probings
+use Rattle.controller.specs.Calls.{onSheet, plannedOn, capacityOutside, probeRefusals, probedUnless, probedOn, probedNumbers}
+use Rattle.controller.specs.declared.Probed.the-variants.{Depletions}
+use Rattle.controller.specs.Refusals.{Line, onLines, damaged, tornLine, ledgerIn, openLines, lossLines, entryLines, lost, planOf, roomLines, planLines, probeLines, tableLines}
 use Rattle.controller.proofs.Sheets.{on-sheet}
 
 -- Refusals 1 to 7 come first, for every call; the call's own go on from the sheet's verdict.
@@ -71,6 +76,19 @@ sheet-verdict verdictIn refuse reply sheet lines no-sheet of-season =
 -- A refusal's number and value are the verdict of an answer that begins with them.
 pub numbers-refused : (number value : ℕ) → 1 ≤ number → verdictOf (number ∷ value ∷ []) ≡ Refused number value
 numbers-refused number value h = verdicts.claims .verdict-of-numbers (Refused number value) [] h
+
+-- An answer that is given unless a line applies has the verdict of the first that does.
+abbrev Numbered : ℕ → ℕ → Type 0
+Numbered number value = 1 ≤ number
+
+by-lines : (verdictUnless : Verdict → Verdict) → verdictUnless Accepted ≡ Accepted
+    → ((number value : ℕ) → 1 ≤ number → verdictUnless (Refused number value) ≡ Refused number value)
+    → (lines : List Line) → Lines Numbered lines → verdictUnless (firstOf Accepted lines) ≡ firstOf Accepted lines
+by-lines verdictUnless accepts refuses lines h = go (firstOf Accepted lines) (first-refusal Numbered Accepted lines tt h)
+  where
+    go : (v : Verdict) → Refusal Numbered v → verdictUnless v ≡ v
+    go Accepted r = accepts
+    go (Refused number value) r = refuses number value r
 
 -- ---- what an opening can be
 
@@ -142,18 +160,37 @@ module _ (s : Season) (area : List ℕ) where
 
   -- 17, then 10
   pub loss-verdict : (ky : ℕ) → verdictOf (lossNumbers (yield.lost s area ky)) ≡ firstOf Accepted (lossLines area ky s)
-  unfolding yield.lost lostOn orRefused
+  unfolding yield.lost lostOn
   loss-verdict ky =
       by-opening (λ o. verdictOf (lossNumbers (lostOn ky o))) (λ o. (kyOutside ky, 17, 0) ∷ tornLine o ∷ []) numbers-refused
-      (λ l. unless (lossesOf ky l) _ (first-refusal Numbered Accepted (lossRefusals ky false 0) tt (omega arith, (omega arith, tt))))
-      (λ l. unless (lossesOf ky l) _ (first-refusal Numbered Accepted (lossRefusals ky true (l .place)) tt (omega arith, (omega arith, tt))))
+      (λ l. by l (lossRefusals ky false 0) (omega arith, (omega arith, tt)))
+      (λ l. by l (lossRefusals ky true (l .place)) (omega arith, (omega arith, tt)))
     where
-      Numbered : ℕ → ℕ → Type 0
-      Numbered number value = 1 ≤ number
+      by : (l : Ledger) (lines : List Line) → Lines Numbered lines → verdictOf (lossNumbers (lostUnless (firstOf Accepted lines) (lossesOf ky l))) ≡ firstOf Accepted lines
+      by l = by-lines (λ v. verdictOf (lossNumbers (lostUnless v (lossesOf ky l)))) refl numbers-refused
 
-      unless : (p : Losses) (v : Verdict) → Refusal Numbered v → verdictOf (lossNumbers (lostUnless v p)) ≡ v
-      unless p Accepted h = refl
-      unless p (Refused number value) h = numbers-refused number value h
+  -- ---- 11, 18 and 19
+
+  probe-lines : (r : Reading) (f : ℕ) → verdictOf (probedNumbers (probedOn s r f (opening s area)))
+      ≡ firstOf Accepted (openLines area s ++ probeRefusals (ltb (seasonDays s) (ledgerIn s (opening s area) .day)) r f)
+  unfolding probedOn
+  probe-lines r f =
+      by-opening (λ o. verdictOf (probedNumbers (probedOn s r f o))) (λ o. tornLine o ∷ probeRefusals (ltb (seasonDays s) (ledgerIn s o .day)) r f)
+      numbers-refused
+      (λ l. let lines = probeRefusals (ltb (seasonDays s) (l .day)) r f in
+      by-lines (λ v. verdictOf (probedNumbers (probedUnless v (Depletions (l .depletion) (measured f (contentIn r) (rootOn s (l .day)) (totalOn s (l .day)))))))
+      refl numbers-refused lines (omega arith, (omega arith, (omega arith, tt)))
+      ∙ sym (first-fails false 10 0 lines refl))
+      (λ l. sym (first-holds true 10 (l .place) (probeRefusals (ltb (seasonDays s) (l .day)) r f) refl))
+
+  -- What the probes say, in document 02's words.
+  pub probe-verdict : (shallow deep : Probe) (f : ℕ) → verdictOf (probedNumbers (probedOn s (readingOf shallow deep) f (opening s area)))
+      ≡ firstOf Accepted (probeLines area shallow deep f s)
+  probe-verdict shallow deep f =
+      probe-lines (readingOf shallow deep) f
+      ∙ ap₂ (λ (wrong nothing : Bool). firstOf Accepted (openLines area s ++ ((ltb (seasonDays s) (ledgerIn s (opening s area) .day), 11, 0) ∷ (wrong || capacityOutside f, 18, 0) ∷ (nothing, 19, 0) ∷ [])))
+      (probings.claims .wrong-either shallow deep)
+      (probings.claims .nothing-neither shallow deep)
 
   -- ---- 11, 15 and 16
 

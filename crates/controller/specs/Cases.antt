@@ -1,6 +1,7 @@
--- Document 01, 'Numbers to hold against it': every case marked †, in its order; then those of a season over the end of February (document 02, T-06). Left, what the calls and their definitions answer; right, the document's numbers.
+-- Document 01, 'Numbers to hold against it': every case marked †, in its order; then those of a season over the end of February and of the probes (document 02, T-06, T-07). Left, what the calls and their definitions answer; right, the document's numbers.
 use Prim.Native.Nat.{ℕ, _*_}
 use mathlib.Core.List.{List, [], _∷_, _++_}
+use lib.Ieee.{binary32, ofBits}
 use lib.ListN.{take, getD, replicate, set}
 use Rattle.verdict.specs.Refusals as verdict
 use Rattle.leb128.specs.Groups.{encode}
@@ -18,7 +19,9 @@ use Rattle.planner.specs.declared.Planned.{Planned}
 use Rattle.planner.specs.Answer as planner
 use Rattle.decades.specs.declared.Tabled.{Tabled}
 use Rattle.decades.specs.Table as decades
-use Rattle.controller.specs.Calls.{sheetOpened, sheetPlanned, sheetTabled}
+use Rattle.probes.specs.declared.Probe.{Probe}
+use Rattle.probes.specs.declared.Probe.the-variants.{Water, Low, Silent}
+use Rattle.controller.specs.Calls.{sheetOpened, sheetPlanned, sheetProbed, probedNumbers, sheetTabled}
 
 -- The small sheet's bytes with these turns, which are its fortieth field.
 abbrev smallSheet : ℕ → List ℕ
@@ -116,4 +119,44 @@ leapCases =
     ∷ (table february29, 0 ∷ 0 ∷ 2 ∷ 2 ∷ 3 ∷ 1200 ∷ 869 ∷ 331 ∷ 442 ∷ 3 ∷ 1 ∷ 600 ∷ 270 ∷ 330 ∷ 440 ∷ [])
     ∷ (plan february29, 0 ∷ 0 ∷ 1 ∷ 440 ∷ 587 ∷ 0 ∷ 0 ∷ 0 ∷ 440 ∷ [])
     ∷ (depletions february29, 200 ∷ 700 ∷ 1200 ∷ 1680 ∷ [])
+    ∷ []
+
+-- ---- the probes
+
+-- A content and a low voltage by their bits.
+abbrev water : ℕ → Probe
+water bits = Water (ofBits binary32 bits)
+
+abbrev low : ℕ → Probe
+low bits = Low (ofBits binary32 bits)
+
+-- The small sheet with this full root depth, its thirty-sixth field, on a journal that begins so.
+abbrev probed : ℕ → List ℕ → Probe → Probe → ℕ → List ℕ
+probed full begins shallow deep f = probedNumbers (sheetProbed (written (set small 35 full)) (begins ++ replicate 4 0xFF) shallow deep f)
+
+unfoldable pub probeCases : List (List ℕ × List ℕ)
+probeCases =
+    -- 0.25, f 3,000: Z 20, T 2,000. 0.25 and 0.5: v 3,750. 0.35 is below it, 3,499. 0: at most T. -0. 1.
+    (probed 20 [] (water 0x3e80_0000) Silent 3000, 0 ∷ 0 ∷ 0 ∷ 1000 ∷ [])
+    ∷ (probed 20 [] (water 0x3e80_0000) (water 0x3f00_0000) 3000, 0 ∷ 0 ∷ 0 ∷ 0 ∷ [])
+    ∷ (probed 20 [] (water 0x3eb3_3333) (water 0x3eb3_3333) 3500, 0 ∷ 0 ∷ 0 ∷ 2 ∷ [])
+    ∷ (probed 20 [] (water 0) Silent 6000, 0 ∷ 0 ∷ 0 ∷ 2000 ∷ [])
+    ∷ (probed 20 [] (water 0x8000_0000) Silent 1, 0 ∷ 0 ∷ 0 ∷ 2 ∷ [])
+    ∷ (probed 20 [] Silent (water 0x3f80_0000) 6000, 0 ∷ 0 ∷ 0 ∷ 0 ∷ [])
+    -- Zm 40: Z 30, and 40 after 03 01. There 0.0002 and 0.0001 are 1 and 0, whose mean is 0.
+    ∷ (probed 40 [] (water 0x3e80_0000) Silent 3000, 0 ∷ 0 ∷ 0 ∷ 1500 ∷ [])
+    ∷ (probed 40 (0x03 ∷ 0x01 ∷ []) (water 0x3e80_0000) Silent 3000, 0 ∷ 0 ∷ 200 ∷ 2000 ∷ [])
+    ∷ (probed 40 (0x03 ∷ 0x01 ∷ []) (water 0x3951_b717) (water 0x38d1_b717) 10, 0 ∷ 0 ∷ 200 ∷ 40 ∷ [])
+    -- f 0 and 6,001, with both silent too; no content; a low NaN; a NaN for a content
+    ∷ (probed 20 [] (water 0x3e80_0000) Silent 0, 18 ∷ 0 ∷ [])
+    ∷ (probed 20 [] Silent Silent 0, 18 ∷ 0 ∷ [])
+    ∷ (probed 20 [] Silent Silent 6001, 18 ∷ 0 ∷ [])
+    ∷ (probed 20 [] Silent Silent 6000, 19 ∷ 0 ∷ [])
+    ∷ (probed 20 [] Silent (low 0x3f00_0000) 3000, 19 ∷ 0 ∷ [])
+    ∷ (probed 20 [] (low 0x7fc0_0000) (water 0x3f00_0000) 3000, 0 ∷ 0 ∷ 0 ∷ 0 ∷ [])
+    ∷ (probed 20 [] (water 0x3f00_0000) (water 0x7fc0_0000) 3000, 18 ∷ 0 ∷ [])
+    -- 8, 10 and 11 come first: an area of 8,193 bytes, 01 AC, all days closed.
+    ∷ (probed 20 (replicate 8189 0xFF) (water 0x7fc0_0000) Silent 3000, 8 ∷ 0 ∷ [])
+    ∷ (probed 20 (0x01 ∷ 0xAC ∷ []) (water 0x7fc0_0000) Silent 3000, 10 ∷ 0 ∷ [])
+    ∷ (probed 20 (0x03 ∷ 0x01 ∷ 0x03 ∷ 0x02 ∷ 0x03 ∷ 0x03 ∷ 0x03 ∷ 0x04 ∷ []) Silent Silent 0, 11 ∷ 0 ∷ [])
     ∷ []

@@ -29,10 +29,13 @@ use Rattle.planner.specs.Outlook.{daysLeft}
 use Rattle.planner.specs.Answer as planned
 use Rattle.planner.specs.Claims as planner
 use Rattle.decades.specs.Table as tabled
-use Rattle.controller.specs.Calls.{sheetOpened, sheetRecorded, sheetLost, sheetPlanned, sheetTabled}
-use Rattle.controller.specs.Refusals.{onLines, openLines, lossLines, entryLines, planLines, tableLines}
+use Rattle.probes.specs.declared.Probe.{Probe}
+use Rattle.probes.specs.Claims as probes
+use Rattle.controller.specs.declared.Probed.{Probed}
+use Rattle.controller.specs.Calls.{sheetOpened, sheetRecorded, sheetLost, sheetPlanned, sheetProbed, probedNumbers, sheetTabled}
+use Rattle.controller.specs.Refusals.{onLines, openLines, lossLines, entryLines, planLines, probeLines, tableLines}
 use Rattle.controller.specs.Demands.{PlanKept, Demand3}
-use Rattle.controller.specs.Cases.{cases, leapCases}
+use Rattle.controller.specs.Cases.{cases, leapCases, probeCases}
 
 pub record Claims : Type 0 where
   -- Demand 3: for every accepted sheet, area length, history with its cuts, and lent buffer.
@@ -44,6 +47,8 @@ pub record Claims : Type 0 where
   pub loss-refuses : (sheet area : List ℕ) (ky : ℕ) → verdictOf (lossNumbers (sheetLost sheet area ky)) ≡ firstOf Accepted (onLines sheet (lossLines area ky))
   pub plan-refuses : (sheet area out : List ℕ)
       → verdictOf (planned.numbersOf (sheetPlanned sheet area out .0)) ≡ firstOf Accepted (onLines sheet (planLines area (length out)))
+  pub probe-refuses : (sheet area : List ℕ) (shallow deep : Probe) (f : ℕ)
+      → verdictOf (probedNumbers (sheetProbed sheet area shallow deep f)) ≡ firstOf Accepted (onLines sheet (probeLines area shallow deep f))
   pub table-refuses : (sheet out : List ℕ) → verdictOf (tabled.numbersOf (sheetTabled sheet out .0)) ≡ firstOf Accepted (onLines sheet (tableLines (length out)))
   pub write-refuses : (vs out : List ℕ) → writeVerdict (sheetWritten vs out .0) ≡ firstOf Accepted (writeLines (sheetFields vs) (length out))
   -- and a refused call has no stores and leaves every lent buffer as it was.
@@ -67,6 +72,8 @@ pub record Claims : Type 0 where
       → PlanKept (sheetOf sheet .season) l out (sheetPlanned sheet area out)
   -- The planner's claims, whole: of any outlook, a plan is refused exactly when no choice holds, and a plan made is the best.
   pub planning : planner.Claims
+  -- The probes' claims, whole: a content in ten-thousandths is the greatest whole number at most its exact value.
+  pub probing : probes.Claims
   -- Demand 2: an accepted sheet and its fields, forty or forty-one, match one to one,
   pub sheet-as-written : (sheet : List ℕ) → Bytes sheet → sheetOf sheet .verdict ≡ Accepted → sheet ≡ written (numbersRead sheet .fields)
   pub written-as-sheet : (vs : List ℕ) → 40 ≤ length vs → length vs ≤ 41 → fieldsVerdict vs ≡ Accepted
@@ -87,10 +94,14 @@ pub record Claims : Type 0 where
   -- Opening finds clean, torn and damaged in document 01's words, behind the longest run of whole entries that would each have been accepted.
   pub opening-says : (sheet area : List ℕ) → sheetOf sheet .verdict ≡ Accepted → length area ≤ 8192
       → Opens (sheetOf sheet .season) area (sheetOpened sheet area .opening)
-  -- The calls' answers are among those on which their numberings are one to one (the journal's `Claims`; a plan's, a table's and a loss's are, on all answers).
+  -- The calls' answers are among those on which their numberings are one to one (the journal's `Claims`; a plan's, a table's, a loss's and a probe's are, on all answers).
   pub opened-occurs : (sheet area : List ℕ) → OpenedOccurs (sheetOpened sheet area)
   pub recorded-occurs : (sheet area : List ℕ) (e : Entry) → RecordedOccurs (sheetRecorded sheet area e)
+  -- Different answers of probe have different numbers.
+  pub probed-one-to-one : (a b : Probed) → probedNumbers a ≡ probedNumbers b → a ≡ b
   -- The cases marked †.
   pub cases-hold : map (λ (c : List ℕ × List ℕ). c .0) cases ≡ map (λ (c : List ℕ × List ℕ). c .1) cases
   -- The leap sheet's, with a February of 28 days and of 29.
   pub leap-cases-hold : map (λ (c : List ℕ × List ℕ). c .0) leapCases ≡ map (λ (c : List ℕ × List ℕ). c .1) leapCases
+  -- The probes' (document 02, T-07).
+  pub probe-cases-hold : map (λ (c : List ℕ × List ℕ). c .0) probeCases ≡ map (λ (c : List ℕ × List ℕ). c .1) probeCases

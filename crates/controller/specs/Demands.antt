@@ -6,6 +6,7 @@ use mathlib.Core.List.{List, [], _∷_}
 use lib.ListN.{length, take}
 use Rattle.season.specs.declared.Season.{Season}
 use Rattle.season.specs.Sheet.{seasonDays}
+use Rattle.season.specs.Day.{rootOn, totalOn}
 use Rattle.sheet.specs.Sheets.{sheetOf}
 use Rattle.journal.specs.declared.Ledger.{Ledger}
 use Rattle.journal.specs.declared.Lost.the-variants.{Parts}
@@ -20,7 +21,12 @@ use Rattle.planner.specs.Plan.{depths}
 use Rattle.planner.specs.Outlook.{outlook, daysLeft}
 use Rattle.planner.specs.Answer.{numbersOf}
 use Rattle.planner.specs.Claims.{MadeRight}
-use Rattle.controller.specs.Calls.{sheetOpened, sheetRecorded, sheetLost, sheetPlanned}
+use Rattle.probes.specs.declared.Probe.{Probe}
+use Rattle.probes.specs.declared.Reading.the-variants.{Content}
+use Rattle.probes.specs.Contents.{readingOf}
+use Rattle.probes.specs.Depletion.{measured}
+use Rattle.controller.specs.declared.Probed.the-variants.{Depletions}
+use Rattle.controller.specs.Calls.{sheetOpened, sheetRecorded, sheetLost, sheetPlanned, sheetProbed}
 use Rattle.controller.specs.Refusals.{planOf}
 
 -- The entry calls and open, all with one sheet.
@@ -55,6 +61,9 @@ pub record Met (sheet : List ℕ) (s : Season) (size : ℕ) (steps : List Step) 
       → PlanKept s (ledgerOf s k) out (sheetPlanned sheet area out)
   -- Where the journal is clean, the losses by any Ky are those of the book's ledger, with all days closed too.
   pub losses : (ky : ℕ) → 1 ≤ ky → ky ≤ 200 → k .loose ≡ [] → sheetLost sheet area ky ≡ Parts (lossesOf ky (ledgerOf s k))
+  -- Where the journal is clean, a day is open and the probes have a content, they are answered beside the book's depletion, by the open day's Z and T.
+  pub probes : (shallow deep : Probe) (f v : ℕ) → 1 ≤ f → f ≤ 6000 → readingOf shallow deep ≡ Content v → k .loose ≡ [] → ledgerOf s k .day ≤ seasonDays s
+      → sheetProbed sheet area shallow deep f ≡ Depletions (ledgerOf s k .depletion) (measured f v (rootOn s (ledgerOf s k .day)) (totalOn s (ledgerOf s k .day)))
 
 abbrev pub Demand3 : List ℕ → ℕ → List Step → List ℕ → Type 0
 Demand3 sheet size steps out =

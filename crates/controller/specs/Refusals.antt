@@ -1,7 +1,7 @@
 -- Document 01, 'Why the controller says no': each call's refusals, read downward. A line is a test, the number, the number returned with it. What a call
 -- answers is held against the first line that applies by its numbering (`verdictOf` of its numbers). Write's are `writeLines` of sheet's specs/Writing.antt.
 use Prim.Native.Nat.{ℕ, _*_}
-use mathlib.Core.Bool.{Bool, true, false}
+use mathlib.Core.Bool.{Bool, true, false, _&&_, _||_}
 use mathlib.Core.List.{List, [], _∷_, _++_}
 use lib.Dec.{ltb}
 use lib.ListN.{length}
@@ -19,6 +19,9 @@ use Rattle.journal.specs.Opening.{opening}
 use Rattle.planner.specs.Plan.{Plan, depths, refused, plan}
 use Rattle.planner.specs.Outlook.{outlook, daysLeft}
 use Rattle.decades.specs.Table.{rowCount}
+use Rattle.probes.specs.declared.Probe.{Probe}
+use Rattle.probes.specs.Contents.{wrongContent, noContent}
+use Rattle.controller.specs.Calls.{capacityOutside}
 
 abbrev pub Line : Type 0
 Line = Bool × ℕ × ℕ
@@ -65,6 +68,17 @@ lossLines area ky s = journalLines area s ++ ((kyOutside ky, 17, 0) ∷ tornLine
 -- Rain, irrigation and close: 10 refuses them.
 abbrev pub entryLines : List ℕ → Entry → Season → List Line
 entryLines area e s = openLines area s ++ refusals (seasonDays s) (length area) (ledgerIn s (opening s area)) e
+
+-- ---- 18 and 19
+
+-- Probe (document 02, T-07): both after 11. A content at fault is 18 in either probe; 19 is no content from either.
+abbrev pub probeLines : List ℕ → Probe → Probe → ℕ → Season → List Line
+probeLines area shallow deep f s =
+    openLines area s
+    ++ ((ltb (seasonDays s) (ledgerIn s (opening s area) .day), 11, 0)
+    ∷ (wrongContent shallow || wrongContent deep || capacityOutside f, 18, 0)
+    ∷ (noContent shallow && noContent deep, 19, 0)
+    ∷ [])
 
 -- ---- 15 and 16
 
