@@ -1,4 +1,4 @@
-/* Balladsky: the block water controller of documents 01 and 02, eight calls on bytes. C99 and C++.
+/* Balladsky: the block water controller of documents 01 and 02, nine calls on bytes. C99 and C++.
  *
  * Link target/staticlib/libexports.a (made by `rt staticlib exports`, x86-64 Linux). It needs memcpy and memset, and
  * nothing else. Every call is proved to meet a contract that fixes each number it writes; crates/exports/src/lib.rt
@@ -10,6 +10,13 @@
  *   area, area_length    The journal, read only: no call writes to it. Any bytes, any length; blank is every byte FF.
  *   amount               Points, hundredths of a millimetre. Any number.
  *   ky                   The yield response factor Ky, in hundredths. Any number.
+ *   shallow_kind         What the shallow probe gives: BALLADSKY_PROBE_WATER a water content, BALLADSKY_PROBE_LOW its
+ *                        supply voltage where the battery is low, any other number nothing. deep_kind likewise.
+ *   shallow, deep        The content, as a fraction of the soil's volume, or the voltage. Any float, a NaN too: only a
+ *                        content is judged. float is the four-byte IEEE type.
+ *   capacity             The field capacity f, in ten-thousandths of the soil's volume: from a soil survey, or read off
+ *                        the probe a day or two after a soaking rain, when drainage has stopped. It is no number of
+ *                        the sheet. Any number.
  *   depths, rows         A buffer that you lend, with how many numbers it has. Too few is refusal 15.
  *   fields               An array of BALLADSKY_FIELDS numbers, read only: fields 1 to 40 of the sheet, then the days
  *                        of February. Any numbers.
@@ -37,11 +44,11 @@
  * RECOVERY is one call. After a cut between any two stores open finds the journal clean or torn, with the ledger of all
  * that was entered whole, which holds already; do its stores, then enter again what was cut. Its stores may be cut in
  * turn: open again, and it hands back those that are left. Until they are done the journal is torn, and every entry,
- * the plan and the loss are refused 10.
+ * the plan, the loss and the probe are refused 10.
  *
  * STACK, THREADS AND SIGNALS
- *   Stack on x86-64, beside what memcpy and memset take: the plan less than 2,800 bytes, every other call less than
- *   1,300.
+ *   Stack on x86-64, beside what memcpy and memset take: the plan less than 2,800 bytes, the probe less than 1,500,
+ *   every other call less than 1,300.
  *   Where memcpy and memset are bound lazily, the first call that uses one takes some 3 KB more, once: link with
  *   -z now, or statically, and it does not.
  *   No heap, no globals, no locks, no recursion, no system call: calls on different buffers may run at once in any
@@ -66,6 +73,13 @@ extern "C" {
 #define BALLADSKY_SHEET 87   /* bytes that every sheet fits in */
 #define BALLADSKY_FIELDS 41  /* numbers of fields */
 
+/* What a probe gives: shallow_kind and deep_kind. */
+enum {
+    BALLADSKY_PROBE_SILENT = 0, /* nothing */
+    BALLADSKY_PROBE_WATER = 1,  /* a water content */
+    BALLADSKY_PROBE_LOW = 2     /* its supply voltage: the battery is low */
+};
+
 /* What out[0] says. A refusal is the first that applies, read downward but for 17, of those that the call gives. In
  * brackets what out[1] then is; else it is 0. None passes 8,192.
  *
@@ -80,28 +94,32 @@ extern "C" {
  * to the season's last; by the table, after 7, where rows has fewer than six numbers a row; by write, after 7, where
  * the buffer has fewer bytes than the sheet.
  * 17 is given by loss, right after 9 and before 10, where ky is outside 1 to 200: with ky 0 a damaged journal is
- * refused 9, and a torn one 17. */
+ * refused 9, and a torn one 17.
+ * 18 and 19 are given by probe, after 11. 18 looks at each content, even where the other probe's is fine, and at
+ * capacity: with capacity 0 two silent probes are refused 18. */
 enum {
-    BALLADSKY_ACCEPTED = 0,             /* accepted; open: the journal is clean */
-    BALLADSKY_SHEET_ENDS = 1,           /* the sheet ends before its fortieth number is whole, or within its
-                                           forty-first [the sheet's length] */
-    BALLADSKY_BAD_NUMBER = 2,           /* a number has a third byte of 80 or more, or a last byte 00 after others
-                                           [the offending byte's place] */
-    BALLADSKY_BYTES_FOLLOW = 3,         /* bytes follow the forty-first number [the first extra byte's place] */
-    BALLADSKY_FIELD_OUT_OF_RANGE = 4,   /* a field is outside its range [the lowest such field, 1 to 41] */
-    BALLADSKY_SEASON_TOO_LONG = 5,      /* the season is longer than 275 days */
-    BALLADSKY_ROOTS_SHRINK = 6,         /* the root depth at sowing is above the full one */
-    BALLADSKY_OPENING_TOO_DRY = 7,      /* the opening depletion is above the total water of day 1 */
-    BALLADSKY_AREA_TOO_LONG = 8,        /* the area is longer than 8,192 bytes */
-    BALLADSKY_DAMAGED = 9,              /* the journal is damaged [the place after the last whole entry] */
-    BALLADSKY_TORN = 10,                /* it is torn [the place after the last whole entry]; from open a finding */
-    BALLADSKY_ALL_CLOSED = 11,          /* all days are closed */
-    BALLADSKY_AMOUNT_OUT_OF_RANGE = 12, /* the amount is outside 1 to 120,000 */
-    BALLADSKY_DAY_OVERFULL = 13,        /* the day's water would pass 240,000 */
-    BALLADSKY_AREA_FULL = 14,           /* the entry does not fit in the area */
-    BALLADSKY_BUFFER_TOO_SHORT = 15,    /* the lent buffer has too few numbers or bytes */
-    BALLADSKY_NO_CHOICE = 16,           /* no choice of depths holds [the first day that none holds] */
-    BALLADSKY_KY_OUT_OF_RANGE = 17      /* Ky is outside 1 to 200 */
+    BALLADSKY_ACCEPTED = 0,              /* accepted; open: the journal is clean */
+    BALLADSKY_SHEET_ENDS = 1,            /* the sheet ends before its fortieth number is whole, or within its
+                                            forty-first [the sheet's length] */
+    BALLADSKY_BAD_NUMBER = 2,            /* a number has a third byte of 80 or more, or a last byte 00 after others
+                                            [the offending byte's place] */
+    BALLADSKY_BYTES_FOLLOW = 3,          /* bytes follow the forty-first number [the first extra byte's place] */
+    BALLADSKY_FIELD_OUT_OF_RANGE = 4,    /* a field is outside its range [the lowest such field, 1 to 41] */
+    BALLADSKY_SEASON_TOO_LONG = 5,       /* the season is longer than 275 days */
+    BALLADSKY_ROOTS_SHRINK = 6,          /* the root depth at sowing is above the full one */
+    BALLADSKY_OPENING_TOO_DRY = 7,       /* the opening depletion is above the total water of day 1 */
+    BALLADSKY_AREA_TOO_LONG = 8,         /* the area is longer than 8,192 bytes */
+    BALLADSKY_DAMAGED = 9,               /* the journal is damaged [the place after the last whole entry] */
+    BALLADSKY_TORN = 10,                 /* it is torn [the place after the last whole entry]; from open a finding */
+    BALLADSKY_ALL_CLOSED = 11,           /* all days are closed */
+    BALLADSKY_AMOUNT_OUT_OF_RANGE = 12,  /* the amount is outside 1 to 120,000 */
+    BALLADSKY_DAY_OVERFULL = 13,         /* the day's water would pass 240,000 */
+    BALLADSKY_AREA_FULL = 14,            /* the entry does not fit in the area */
+    BALLADSKY_BUFFER_TOO_SHORT = 15,     /* the lent buffer has too few numbers or bytes */
+    BALLADSKY_NO_CHOICE = 16,            /* no choice of depths holds [the first day that none holds] */
+    BALLADSKY_KY_OUT_OF_RANGE = 17,      /* Ky is outside 1 to 200 */
+    BALLADSKY_CONTENT_OUT_OF_RANGE = 18, /* a content is no number from 0 to 1, or the capacity is outside 1 to 6,000 */
+    BALLADSKY_NO_CONTENT = 19            /* neither probe gives a content */
 };
 
 /* Opens the journal. Clean or torn: out[2] open day (days + 1 when all are closed), [3] depletion, [4] waiting rain,
@@ -130,6 +148,14 @@ void balladsky_close(const uint8_t *sheet, size_t sheet_length, const uint8_t *a
  * when all days are closed too. Refusals 1 to 9, then 17, then 10. */
 void balladsky_loss(const uint8_t *sheet, size_t sheet_length, const uint8_t *area, size_t area_length, uint32_t ky,
     uint32_t *out);
+
+/* The depletion by the ledger and by the block's two probes. Accepted: out[2] the ledger's depletion, as open answers
+ * it, [3] the measured one: (capacity - v) * Z / 10, rounded down, 0 where v is above capacity, and at most T, with the
+ * open day's root depth Z in centimetres and its total water T. v is the content in ten-thousandths, rounded down from
+ * the float's exact value, and of two contents the mean of both v, rounded down; -0.0 counts as 0. Waiting water plays
+ * no part. It hands back no stores. Refusals 1 to 11, 18 and 19. */
+void balladsky_probe(const uint8_t *sheet, size_t sheet_length, const uint8_t *area, size_t area_length,
+    uint32_t shallow_kind, float shallow, uint32_t deep_kind, float deep, uint32_t capacity, uint32_t *out);
 
 /* Plans the waterings from the open day to the season's end. Accepted: depths[0] is the open day's net depth, depths[1]
  * the next day's, and so on; out[2] how many are above 0, [3] the net total, [4] the gross total. Refusals 1 to 11, 15

@@ -1,5 +1,5 @@
-/* A season of four days on the small sheet of document 01, with two power cuts. Prints the decade table, the ledger
- * and the lost yield. */
+/* A season of four days on the small sheet of document 01, with two power cuts. Prints the decade table, what the soil
+ * probes say on day 3, the ledger and the lost yield. */
 #include "balladsky.h"
 #include <stdio.h>
 #include <stdlib.h>
@@ -10,6 +10,9 @@ static const uint8_t sheet[] = {
     1, 9, 1, 1, 1, 1, 40, 100, 60, 0xF4, 3, 0, 0, 0, 0, 0, 0, 0, 0, 0, 0, 0,
     0, 0, 0, 0, 0, 0, 0, 0, 0, 0, 0, 0, 100, 20, 20, 50, 75, 0, 127,
 };
+
+/* A NaN by its bits. */
+static const union { uint32_t bits; float value; } no_number = {0x7FC00000};
 
 /* The journal's memory. */
 static uint8_t area[64];
@@ -77,6 +80,15 @@ static void close_day(unsigned day) {
     printf("day %u closed\n", day);
 }
 
+/* The ledger's depletion beside the measured one, in a soil whose field capacity is 0.3 of its volume. */
+static void print_probes(const char *what, uint32_t shallow_kind, float shallow, uint32_t deep_kind, float deep) {
+    balladsky_probe(sheet, sizeof sheet, area, sizeof area, shallow_kind, shallow, deep_kind, deep, 3000, out);
+    if (out[0] == BALLADSKY_ACCEPTED)
+        printf("probes, %s: ledger %u, measured %u\n", what, out[2], out[3]);
+    else
+        printf("probes, %s: refused %u %u\n", what, out[0], out[1]);
+}
+
 static void print_ledger(void) {
     static const char *const names[] = {
         "open day", "depletion", "waiting rain", "waiting irrigation", "season rain", "season irrigation", "season use",
@@ -105,6 +117,10 @@ int main(void) {
     enter_with_cut("rain", balladsky_rain, 300, 2);
     close_day(1);
     close_day(2);
+    print_probes("both", BALLADSKY_PROBE_WATER, 0.25f, BALLADSKY_PROBE_WATER, 0.28125f);
+    print_probes("shallow low", BALLADSKY_PROBE_LOW, 2.9f, BALLADSKY_PROBE_WATER, 0.28125f);
+    print_probes("both silent", BALLADSKY_PROBE_SILENT, 0, BALLADSKY_PROBE_SILENT, 0);
+    print_probes("shallow NaN", BALLADSKY_PROBE_WATER, no_number.value, BALLADSKY_PROBE_WATER, 0.28125f);
     balladsky_plan(sheet, sizeof sheet, area, sizeof area, depths, BALLADSKY_DEPTHS, out);
     must("plan");
     printf("plan: %u watering%s, net %u, gross %u\n", out[2], out[2] == 1 ? "" : "s", out[3], out[4]);

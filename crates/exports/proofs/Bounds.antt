@@ -43,11 +43,15 @@ use Rattle.decades.specs.declared.Tabled.the-variants as table
 use Rattle.decades.specs.Table.{rowCount, tabled}
 use Rattle.decades.specs.Table as definition
 use Rattle.decades.proofs.Count.{rows-at-most}
-use Rattle.controller.specs.Calls.{plannedOn, sheetOpened, sheetRecorded, sheetLost, sheetPlanned, sheetTabled}
+use Rattle.probes.specs.declared.Probe.{Probe}
+use Rattle.probes.specs.declared.Reading.{Reading}
+use Rattle.probes.specs.Contents.{readingOf}
+use Rattle.controller.specs.declared.Probed.the-variants as probed
+use Rattle.controller.specs.Calls.{plannedOn, probeRefusals, probedUnless, probedBy, probedOn, sheetOpened, sheetRecorded, sheetLost, sheetPlanned, sheetProbed, sheetTabled}
 use Rattle.controller.proofs.Sheets.{on-sheet}
 use Rattle.controller.proofs.Refusing.{opening-by}
 use Rattle.controller.proofs.Claims.{claims}
-use Rattle.exports.specs.Small.{SmallVerdict, SmallOpening, SmallOpened, SmallRecorded, SmallLost, SmallPlanned, SmallTabled, SmallWritten}
+use Rattle.exports.specs.Small.{SmallVerdict, SmallOpening, SmallOpened, SmallRecorded, SmallLost, SmallPlanned, SmallProbed, SmallTabled, SmallWritten}
 
 -- ---- the sheet
 
@@ -173,6 +177,26 @@ lost-small sheet area ky =
     on-sheet losing.Refused (λ s. lost s area ky) sheet SmallLost
     (λ number value v. refused-small sheet number value v)
     (λ s v q o. opening-by s area (λ p. SmallLost (lostOn ky p)) (λ h. omega arith) (λ h l i. lost-by-small ky l false 0 (omega arith)) (λ h l i. lost-by-small ky l true (l .place) (omega arith)) (λ h l i. omega arith))
+
+-- ---- probe
+
+-- Refusals 11, 18 and 19 carry no place.
+probed-by-small : (s : Season) (r : Reading) (f day depletion : ℕ) → SmallProbed (probedBy s r f day depletion)
+probed-by-small s r f day depletion =
+    unless (firstOf Accepted (probeRefusals (ltb (seasonDays s) day) r f)) _
+    (first-refusal (λ number value. value ≤ 8192) Accepted (probeRefusals (ltb (seasonDays s) day) r f) tt (omega arith, (omega arith, (omega arith, tt))))
+  where
+    unless : (v : Verdict) (p : ℕ) → Refusal (λ number value. value ≤ 8192) v → SmallProbed (probedUnless v (probed.Depletions depletion p))
+    unless Accepted p a = tt
+    unless (Refused number value) p a = a
+
+pub probed-small : (sheet area : List ℕ) (shallow deep : Probe) (f : ℕ) → SmallProbed (sheetProbed sheet area shallow deep f)
+unfolding probedOn
+probed-small sheet area shallow deep f =
+    let r = readingOf shallow deep in
+    on-sheet probed.Refused (λ s. probedOn s r f (opening s area)) sheet SmallProbed
+    (λ number value v. refused-small sheet number value v)
+    (λ s v q o. opening-by s area (λ p. SmallProbed (probedOn s r f p)) (λ h. omega arith) (λ h l i. probed-by-small s r f (l .day) (l .depletion)) (λ h l i. omega arith) (λ h l i. omega arith))
 
 -- ---- plan and table
 

@@ -1,8 +1,10 @@
 -- The claims, in the order of specs/Claims.antt.
 use Prim.Native.Nat.{ℕ, _-_, _≤_}
-use mathlib.Core.Path.{_≡_, sym, ap, subst, _∙_}
+use mathlib.Core.Path.{_≡_, refl, sym, ap, subst, _∙_}
 use mathlib.Core.List.{List, [], _∷_, _++_}
 use native.Mathlib.Omega.{arith}
+use borrow.Author.Tests.{ne-eqb}
+use lib.Ieee.{Float}
 use lib.ListN.{length, drop, take, replicate}
 use Rattle.verdict.specs.declared.Verdict.{Verdict}
 use Rattle.verdict.specs.declared.Verdict.the-variants.{Accepted, Refused}
@@ -20,6 +22,9 @@ use Rattle.journal.specs.Claims.{StoresOccur, CountOccurs, OpenedOccurs, Placed
 use Rattle.planner.specs.declared.Planned.{Planned}
 use Rattle.planner.specs.declared.Planned.the-variants as planned
 use Rattle.planner.specs.Answer as planner
+use Rattle.controller.specs.declared.Probed.{Probed}
+use Rattle.controller.specs.declared.Probed.the-variants as probed
+use Rattle.probes.specs.declared.Probe.the-variants.{Silent}
 use Rattle.decades.specs.declared.Tabled.{Tabled}
 use Rattle.decades.specs.declared.Tabled.the-variants as table
 use Rattle.decades.specs.Table as decades
@@ -28,12 +33,13 @@ use Rattle.sheet.specs.declared.Written.the-variants as made
 use Rattle.sheet.specs.Writing as writer
 use Rattle.sheet.specs.Writing.{sheetWritten}
 use Rattle.season.proofs.Stores.{at-start}
-use Rattle.controller.specs.Calls.{sheetOpened, sheetRecorded, sheetLost, sheetPlanned, sheetTabled}
+use Rattle.controller.specs.Calls.{sheetOpened, sheetRecorded, sheetLost, sheetPlanned, sheetProbed, probedNumbers, sheetTabled}
 use Rattle.controller.proofs.Claims as controller
 use Rattle.verdict.specs.Refusals.{numbersThen}
 use Rattle.exports.specs.Written.{outLength, writtenOver, withLedger, openedOut}
+use Rattle.exports.specs.Kinds.{probeOf}
 use Rattle.exports.specs.Claims.{Claims}
-use Rattle.exports.proofs.Bounds.{opened-small, recorded-small, lost-small, planned-small, tabled-small, written-small}
+use Rattle.exports.proofs.Bounds.{opened-small, recorded-small, lost-small, planned-small, probed-small, tabled-small, written-small}
 
 over-first : (ns out : List ℕ) → length ns ≤ length out → writtenOver ns out ≡ ns ++ drop (length ns) out
 over-first ns out h = at-start ns out h
@@ -53,6 +59,10 @@ planned-length : (p : Planned) → length (planner.numbersOf p) ≤ outLength
 planned-length (planned.Made days net gross) = omega arith
 planned-length (planned.Refused number value) = omega arith
 
+probed-length : (r : Probed) → length (probedNumbers r) ≤ outLength
+probed-length (probed.Depletions ledger probes) = omega arith
+probed-length (probed.Refused number value) = omega arith
+
 tabled-length : (t : Tabled) → length (decades.numbersOf t) ≤ outLength
 tabled-length (table.Rows count) = omega arith
 tabled-length (table.Refused number value) = omega arith
@@ -64,6 +74,12 @@ written-length (made.Refused number value) = omega arith
 stores-length : (v : Verdict) (w : Stores) → StoresOccur v w → length (numbersThen v (w .start ∷ w .count ∷ w .bytes)) ≤ outLength
 stores-length Accepted w h = omega (arith, h .size)
 stores-length (Refused number value) w h = omega arith
+
+-- ---- kinds
+
+kind-silent : (kind : ℕ) (x : Float) → (kind ≡ 1 → ⊥) → (kind ≡ 2 → ⊥) → probeOf kind x ≡ Silent
+unfolding probeOf
+kind-silent kind x one two = rw (ne-eqb kind 1 one, ne-eqb kind 2 two)
 
 -- ---- one to one
 
@@ -104,20 +120,26 @@ opened-one q r a b e =
     λ i. record { opening = o .0 i; places = w .1 i; count = w .0 i }
 
 pub claims : Claims
+unfolding probeOf
 claims = record {
   over-first = over-first;
   opened-fits = λ sheet area. opening-length (sheetOpened sheet area .opening) (sheetOpened sheet area) (controller.claims .opened-occurs sheet area .placed);
   recorded-fits = λ sheet area e. stores-length (sheetRecorded sheet area e .verdict) (sheetRecorded sheet area e .stores) (controller.claims .recorded-occurs sheet area e);
   lost-fits = λ sheet area ky. lost-length (sheetLost sheet area ky);
   planned-fits = λ sheet area depths. planned-length (sheetPlanned sheet area depths .0);
+  probed-fits = λ sheet area shallow deep f. probed-length (sheetProbed sheet area shallow deep f);
   tabled-fits = λ sheet rows. tabled-length (sheetTabled sheet rows .0);
   written-fits = λ fields sheet. written-length (sheetWritten fields sheet .0);
   opened-small = opened-small;
   recorded-small = recorded-small;
   lost-small = lost-small;
   planned-small = planned-small;
+  probed-small = probed-small;
   tabled-small = tabled-small;
   written-small = written-small;
+  kind-water = λ x. refl;
+  kind-low = λ x. refl;
+  kind-silent = kind-silent;
   opened-one-to-one = opened-one;
   recorded-one-to-one = λ q r a b e. recorded-with-one (q .verdict) (r .verdict) (q .stores) (r .stores) a b e;
 }

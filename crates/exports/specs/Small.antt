@@ -11,6 +11,8 @@ use Rattle.journal.specs.declared.Lost.{Lost}
 use Rattle.journal.specs.declared.Lost.the-variants as losing
 use Rattle.planner.specs.declared.Planned.{Planned}
 use Rattle.planner.specs.declared.Planned.the-variants as planned
+use Rattle.controller.specs.declared.Probed.{Probed}
+use Rattle.controller.specs.declared.Probed.the-variants as probed
 use Rattle.decades.specs.declared.Tabled.{Tabled}
 use Rattle.decades.specs.declared.Tabled.the-variants as table
 use Rattle.sheet.specs.declared.Written.{Written}
@@ -42,6 +44,10 @@ SmallLost (losing.Refused number value) = value ≤ 8192
 abbrev pub SmallPlanned : Planned → Type 0
 SmallPlanned (planned.Made days net gross) = Unit {0}
 SmallPlanned (planned.Refused number value) = value ≤ 8192
+
+abbrev pub SmallProbed : Probed → Type 0
+SmallProbed (probed.Depletions ledger probes) = Unit {0}
+SmallProbed (probed.Refused number value) = value ≤ 8192
 
 abbrev pub SmallTabled : Tabled → Type 0
 SmallTabled (table.Rows count) = count ≤ 8192

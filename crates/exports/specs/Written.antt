@@ -1,5 +1,5 @@
 -- The numbers that an exported call writes for C and Rust: document 01's number (0 accepted or clean, 10 torn, else the refusal), the number
--- returned with it, then the answer. A loss, a plan, a table and a sheet written have the numbering that stands beside them.
+-- returned with it, then the answer. A loss, a plan, a probe, a table and a sheet written have the numbering that stands beside them.
 use Prim.Native.Nat.{ℕ}
 use mathlib.Core.List.{List, [], _∷_, _++_}
 use lib.Seq.{sets}

@@ -1,5 +1,6 @@
 // The controller's calls for C and Rust (include/balladsky.h). Each writes its answer's numbers over the first numbers of `out`: document 01's
 // number (0 accepted or clean, 10 torn, else the refusal), the number returned with it, then the answer. Numbers beyond the answer stay.
+use controller::Probed;
 use decades::Tabled;
 use journal::Entry;
 use journal::Ledger;
@@ -8,6 +9,7 @@ use journal::Lost;
 use journal::Opening;
 use journal::Source;
 use planner::Planned;
+use probes::Probe;
 use sheet::Written;
 use verdict::Verdict;
 ghost use mathlib.Core.Path.{_≡_};
@@ -20,7 +22,8 @@ ghost use Rattle.journal.specs.Entries.{ledgerNumbers};
 ghost use Rattle.journal.specs.Loss.{lossNumbers};
 ghost use Rattle.planner.specs.Answer.{numbersOf};
 ghost use Rattle.sheet.specs.Writing.{sheetWritten};
-ghost use Rattle.controller.specs.Calls.{sheetOpened, sheetRecorded, sheetLost, sheetPlanned, sheetTabled};
+ghost use Rattle.controller.specs.Calls.{sheetOpened, sheetRecorded, sheetLost, sheetPlanned, sheetProbed, probedNumbers, sheetTabled};
+ghost use Rattle.exports.specs.Kinds.{probeOf};
 ghost use Rattle.exports.specs.Written.{writtenOver, openedOut, recordedOut, plannedOver, tabledOver, sheetOver};
 ghost use Rattle.exports.specs.Small.{SmallPlanned};
 
@@ -131,6 +134,16 @@ fn put_planned(out: &mut [u32; OUT], p: Planned)
     }
 }
 
+// Two depletions: the ledger's and the measured one.
+fn put_depletions(out: &mut [u32; OUT], ledger: u32, measured: u32)
+    ensures { λ _. ⌜ now (out .exit) ≡ writtenOver (probedNumbers (Probed.Depletions ledger measured)) (now (out .entry)) ⌝ }
+{
+    out[0] = 0;
+    out[1] = 0;
+    out[2] = ledger;
+    out[3] = measured;
+}
+
 // A table or a sheet that is made: how many rows or bytes.
 fn put_size(out: &mut [u32; OUT], size: usize)
     requires { ⌜ size ≤ 8192 ⌝ }
@@ -165,7 +178,20 @@ fn put_sheet(fields: [u32; 41], sheet: &mut [u8], out: &mut [u32; OUT])
     }
 }
 
-// ---- the eight calls
+// A probe by its kind: 1 water content, 2 low supply voltage, any other number silent.
+fn probe_of(kind: u32, x: f32) -> Probe
+    ensures { λ r. ⌜ r ≡ probeOf kind x ⌝ }
+{
+    if kind == 1 {
+        return Probe::Water(x);
+    }
+    if kind == 2 {
+        return Probe::Low(x);
+    }
+    Probe::Silent
+}
+
+// ---- the nine calls
 
 // Clean or torn: open day, depletion, waiting rain, waiting irrigation, season rain, irrigation, use, percolation, place, need, need and use of each
 // stage, and how many places to set to FF and three places, highest first. Refusals 1 to 9.
@@ -229,6 +255,28 @@ pub extern "C" fn balladsky_plan(
     ensures { λ _. ⌜ (now (out .exit), now (depths .exit)) ≡ plannedOver (now (out .entry)) (sheetPlanned (now (sheet .entry)) (now (area .entry)) (now (depths .entry))) ⌝ }
 {
     put_planned(out, controller::plan(sheet, area, depths));
+}
+
+// The ledger's depletion and the measured one, by each probe's kind and value and a field capacity in ten-thousandths. Refusals 1 to 11, 18 and 19.
+#[no_mangle]
+pub extern "C" fn balladsky_probe(
+    sheet: &[u8],
+    area: &[u8],
+    shallowkind: u32,
+    shallow: f32,
+    deepkind: u32,
+    deep: f32,
+    capacity: u32,
+    out: &mut [u32; OUT],
+)
+    ensures { λ _. ⌜ now (out .exit) ≡ writtenOver (probedNumbers (sheetProbed (now (sheet .entry)) (now (area .entry)) (probeOf shallowkind shallow) (probeOf deepkind deep) capacity)) (now (out .entry)) ⌝ }
+{
+    let above = probe_of(shallowkind, shallow);
+    let below = probe_of(deepkind, deep);
+    match controller::probe(sheet, area, above, below, capacity) {
+        Probed::Depletions(ledger, measured) => put_depletions(out, ledger, measured),
+        Probed::Refused(number, value) => put_refusal(out, number, value),
+    }
 }
 
 // Rows; six numbers a row in the lent buffer. Refusals 1 to 7, and 15.

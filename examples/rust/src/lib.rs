@@ -1,4 +1,4 @@
-//! The eight calls of include/balladsky.h for Rust. The header says what each writes and what its names stand for; a
+//! The nine calls of include/balladsky.h for Rust. The header says what each writes and what its names stand for; a
 //! reference here has what the header asks of a pointer.
 
 /// What a call writes: document 01's number, the number returned with it, then the answer.
@@ -30,6 +30,25 @@ pub const AREA_FULL: u32 = 14;
 pub const BUFFER_TOO_SHORT: u32 = 15;
 pub const NO_CHOICE: u32 = 16;
 pub const KY_OUT_OF_RANGE: u32 = 17;
+pub const CONTENT_OUT_OF_RANGE: u32 = 18;
+pub const NO_CONTENT: u32 = 19;
+
+/// What a probe gives: a water content, its supply voltage where the battery is low, or nothing.
+#[derive(Clone, Copy, Debug)]
+pub enum Probe { Water(f32), Low(f32), Silent }
+
+/// The same as the header has it: a kind, of which every number but 1 and 2 is silent, and a value.
+pub type Reading = (u32, f32);
+
+impl Probe {
+    fn reading(self) -> Reading {
+        match self {
+            Probe::Silent => (0, 0.0),
+            Probe::Water(content) => (1, content),
+            Probe::Low(voltage) => (2, voltage),
+        }
+    }
+}
 
 mod c {
     extern "C" {
@@ -39,6 +58,10 @@ mod c {
         pub fn balladsky_close(sheet: *const u8, sheet_length: usize, area: *const u8, area_length: usize, out: *mut u32);
         pub fn balladsky_loss(
             sheet: *const u8, sheet_length: usize, area: *const u8, area_length: usize, ky: u32, out: *mut u32,
+        );
+        pub fn balladsky_probe(
+            sheet: *const u8, sheet_length: usize, area: *const u8, area_length: usize, shallow_kind: u32, shallow: f32,
+            deep_kind: u32, deep: f32, capacity: u32, out: *mut u32,
         );
         pub fn balladsky_plan(
             sheet: *const u8, sheet_length: usize, area: *const u8, area_length: usize, depths: *mut u32, depths_length: usize, out: *mut u32,
@@ -66,6 +89,17 @@ pub fn close(sheet: &[u8], area: &[u8], out: &mut Out) {
 
 pub fn loss(sheet: &[u8], area: &[u8], ky: u32, out: &mut Out) {
     unsafe { c::balladsky_loss(sheet.as_ptr(), sheet.len(), area.as_ptr(), area.len(), ky, out.as_mut_ptr()) }
+}
+
+pub fn probe(sheet: &[u8], area: &[u8], shallow: Probe, deep: Probe, capacity: u32, out: &mut Out) {
+    probe_of_any_kind(sheet, area, shallow.reading(), deep.reading(), capacity, out)
+}
+
+/// The same with any kinds.
+pub fn probe_of_any_kind(sheet: &[u8], area: &[u8], shallow: Reading, deep: Reading, capacity: u32, out: &mut Out) {
+    let (s, a, out) = (sheet.as_ptr(), area.as_ptr(), out.as_mut_ptr());
+    let ((shallow_kind, shallow), (deep_kind, deep)) = (shallow, deep);
+    unsafe { c::balladsky_probe(s, sheet.len(), a, area.len(), shallow_kind, shallow, deep_kind, deep, capacity, out) }
 }
 
 pub fn plan(sheet: &[u8], area: &[u8], depths: &mut [u32], out: &mut Out) {

@@ -1,6 +1,6 @@
-//! A season of four days on the small sheet of document 01, with two power cuts. Prints the decade table, the ledger
-//! and the lost yield.
-use balladsky::{close, irrigation, loss, open, plan, rain, table, Out, ACCEPTED, DEPTHS, OUT, ROWS, TORN};
+//! A season of four days on the small sheet of document 01, with two power cuts. Prints the decade table, what the soil
+//! probes say on day 3, the ledger and the lost yield.
+use balladsky::{close, irrigation, loss, open, plan, probe, rain, table, Out, Probe, ACCEPTED, DEPTHS, OUT, ROWS, TORN};
 
 /// 1 9; 1 1 1 1; 40 100 60; 500 and eleven 0; twelve 0; 100 20 20 50; 75; 0; turns 127.
 const SHEET: [u8; 41] = [
@@ -72,6 +72,15 @@ impl Firmware {
         println!("day {day} closed");
     }
 
+    /// The ledger's depletion beside the measured one, in a soil whose field capacity is 0.3 of its volume.
+    fn print_probes(&mut self, what: &str, shallow: Probe, deep: Probe) {
+        probe(&SHEET, &self.area, shallow, deep, 3_000, &mut self.out);
+        match self.out {
+            [ACCEPTED, _, ledger, measured, ..] => println!("probes, {what}: ledger {ledger}, measured {measured}"),
+            [number, value, ..] => println!("probes, {what}: refused {number} {value}"),
+        }
+    }
+
     fn print_ledger(&mut self) {
         open(&SHEET, &self.area, &mut self.out);
         self.accepted("open");
@@ -103,6 +112,10 @@ fn main() {
     f.enter_with_cut("rain", rain, 300, 2);
     f.close_day(1);
     f.close_day(2);
+    f.print_probes("both", Probe::Water(0.25), Probe::Water(0.28125));
+    f.print_probes("shallow low", Probe::Low(2.9), Probe::Water(0.28125));
+    f.print_probes("both silent", Probe::Silent, Probe::Silent);
+    f.print_probes("shallow NaN", Probe::Water(f32::from_bits(0x7fc0_0000)), Probe::Water(0.28125));
     plan(&SHEET, &f.area, &mut depths, &mut f.out);
     f.accepted("plan");
     let (waterings, net, gross) = (f.out[2], f.out[3], f.out[4]);
