@@ -9,6 +9,7 @@
 // bytes that its journal starts with; one that starts with '+' is a day; one that starts with '#' says where the figures
 // are printed. February has 28 days there, and no forty-first number is written, unless a figure's inputs set field 41.
 mod ledger;
+mod probing;
 mod rules;
 mod sheets;
 mod text;
@@ -272,6 +273,7 @@ fn run_exact_rules(before: Tally) -> Tally {
         .run(b"rule_gross", rules::GROSS)
         .run(b"rule_use", rules::USE)
         .run(b"rule_loss", rules::LOSS)
+        .run(b"rule_contents", rules::CONTENT)
         .run(b"rule_refusals", rules::REFUSAL)
         .run_again(
             b"rule_refusals",
@@ -282,6 +284,7 @@ fn run_exact_rules(before: Tally) -> Tally {
         .run(b"rule_dates", rules::DATE)
         .run(b"rule_journal", rules::JOURNAL)
         .run(b"rule_losses", rules::JOURNAL)
+        .run(b"rule_probes", rules::PROBE)
 }
 
 // Document 01's rules by a separate reading of them: whole seasons.

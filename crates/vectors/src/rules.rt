@@ -2,6 +2,7 @@
 // the deviation; inputs follow. Where a rule asks about a season, two numbers follow (a day, or a row and a column) and
 // then places of the sheet with their values.
 use crate::ledger;
+use crate::probing;
 use crate::sheets;
 use crate::writing;
 use season::DayClose;
@@ -79,11 +80,17 @@ pub const ROOM: u32 = 22;
 // Yield lost, by Ky, need and use.
 pub const LOSS: u32 = 23;
 
+// What two probes say, by their kinds and bits.
+pub const CONTENT: u32 = 24;
+
 // A number of the days closed by the rule.
-pub const BALANCE: u32 = 24;
+pub const BALANCE: u32 = 25;
 
 // A byte of the journal that the calls wrote, or a number of its opening or of its loss.
-pub const JOURNAL: u32 = 25;
+pub const JOURNAL: u32 = 26;
+
+// A number of what the probes mean beside that journal, by their kinds and bits and a field capacity.
+pub const PROBE: u32 = 27;
 
 // Effective rain.
 fn rain(q: u32) -> u64 {
@@ -246,12 +253,13 @@ pub fn answer(rule: u32, numbers: &[u32], fields: [u32; 41]) -> u64 {
         NET => season::saturating_sub(a, b) as u64,
         USE => close(a, 0, b, get(numbers, 6), get(numbers, 7)).used as u64,
         LOSS => loss(a, b, get(numbers, 6)),
+        CONTENT => probing::reading(numbers),
         _ => of_fields(rule, own_fields(fields, numbers), a, b),
     }
 }
 
-// The same of the days closed so far: a number of the balance; or a byte of the journal, or a number of its opening or
-// of its loss.
+// The same of the days closed so far: a number of the balance; or a byte of the journal, or a number of its opening, of
+// its loss or of the probes.
 pub fn answer_after_days(
     rule: u32,
     numbers: &[u32],
@@ -259,17 +267,24 @@ pub fn answer_after_days(
     balance: &[u32],
     area: &[u8],
 ) -> u64 {
-    let which = get(numbers, 4);
     if rule == BALANCE {
-        return get(balance, which as usize) as u64;
-    }
-    if which == 0 {
-        return get_byte(area, get(numbers, 5) as usize) as u64;
+        return get(balance, get(numbers, 4) as usize) as u64;
     }
     let mut bytes = [0u8; 124];
     let k = sheets::write_sheet(&fields, &mut bytes);
     let n = io::count(signed(k), &bytes);
-    ledger::number_of(&bytes[..n], area, which, get(numbers, 5))
+    if rule == PROBE {
+        return probing::number_of(&bytes[..n], area, numbers);
+    }
+    of_journal(&bytes[..n], area, get(numbers, 4), get(numbers, 5))
+}
+
+// A byte of the journal, or a number of its opening or of its loss by a Ky.
+fn of_journal(sheet: &[u8], area: &[u8], which: u32, n: u32) -> u64 {
+    if which == 0 {
+        return get_byte(area, n as usize) as u64;
+    }
+    ledger::number_of(sheet, area, which, n)
 }
 
 // A day's line: need, rain and irrigation for the balance; rain and irrigation for the journal.
