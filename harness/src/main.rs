@@ -1,23 +1,24 @@
 //! Compares the static library with the plain implementation on random cases: sheets valid, damaged and written,
-//! journals clean, torn and damaged, areas of 0 to 8,193 bytes, histories with a cut after every store. The whole of
-//! `out` and of each lent buffer is compared, noise beyond the answer included; histories are compared with the book
-//! too, and openings, lost yield and forty-first numbers with document 02's cases. In every case each buffer that the
-//! library is given ends before a guard page or begins behind one, so that a read or write past it is a fault, and
-//! sheet, area and fields must be as they were. Then lengths from 2^16 to 2^32 and a little more, which are other
-//! lengths to whoever keeps fewer bits.
+//! journals clean, torn and damaged, areas of 0 to 8,193 bytes, histories with a cut after every store, water contents
+//! of any bits. The whole of `out` and of each lent buffer is compared, noise beyond the answer included; histories are
+//! compared with the book too, and openings, lost yield, soil probes and forty-first numbers with document 02's cases.
+//! In every case each buffer that the library is given ends before a guard page or begins behind one, so that a read or
+//! write past it is a fault, and sheet, area and fields must be as they were. Then lengths from 2^16 to 2^32 and a
+//! little more, which are other lengths to whoever keeps fewer bits. Each refusal of each call must have come up.
 //! Prints its seed; stops with status 1 at the first difference or fault.
 //!
 //!     cargo run --release --manifest-path harness/Cargo.toml [SEED]
 use balladsky::{self as library, Out, OUT};
 use harness::memory::{self, Guarded, Side};
-use harness::numbers;
 use harness::plain::book::{self, Book, Call};
-use harness::plain::{self, Opening};
-use harness::random::{self, Dice, Fields};
+use harness::plain::{self, Opening, Reading};
+use harness::random::{self, Dice, Fields, Probes};
+use harness::{cases, numbers};
+use std::ops::RangeInclusive;
 
 /// A call, with what it is given beside sheet and area. Loss: Ky. Plan and table: how many numbers are lent.
 #[derive(Clone, Copy, Debug)]
-enum Ask { Open, Rain(u32), Irrigation(u32), Close, Loss(u32), Plan(usize), Table(usize) }
+enum Ask { Open, Rain(u32), Irrigation(u32), Close, Loss(u32), Probe(Probes), Plan(usize), Table(usize) }
 
 impl Ask {
     /// Which of the calls on a sheet it is, from 0.
@@ -28,8 +29,9 @@ impl Ask {
             Ask::Irrigation(_) => 2,
             Ask::Close => 3,
             Ask::Loss(_) => 4,
-            Ask::Plan(_) => 5,
-            Ask::Table(_) => 6,
+            Ask::Probe(_) => 5,
+            Ask::Plan(_) => 6,
+            Ask::Table(_) => 7,
         }
     }
 
@@ -53,6 +55,7 @@ fn by_library(sheet: &[u8], area: &[u8], ask: Ask, out: &mut Out, lent: &mut [u3
         Ask::Irrigation(v) => library::irrigation(sheet, area, v, out),
         Ask::Close => library::close(sheet, area, out),
         Ask::Loss(ky) => library::loss(sheet, area, ky, out),
+        Ask::Probe(p) => library::probe_of_any_kind(sheet, area, p.shallow, p.deep, p.capacity, out),
         Ask::Plan(_) => library::plan(sheet, area, lent, out),
         Ask::Table(_) => library::table(sheet, lent, out),
     })
@@ -65,6 +68,7 @@ fn by_plain(sheet: &[u8], area: &[u8], ask: Ask, out: &mut Out, lent: &mut [u32]
         Ask::Irrigation(v) => numbers::recorded(plain::irrigation(sheet, area, v)),
         Ask::Close => numbers::recorded(plain::close(sheet, area)),
         Ask::Loss(ky) => numbers::lost(plain::loss(sheet, area, ky)),
+        Ask::Probe(p) => numbers::probed(plain::probe(sheet, area, p.shallow, p.deep, p.capacity)),
         Ask::Plan(_) => numbers::planned(plain::plan(sheet, area, lent)),
         Ask::Table(_) => numbers::tabled(plain::table(sheet, lent)),
     };
@@ -72,7 +76,14 @@ fn by_plain(sheet: &[u8], area: &[u8], ask: Ask, out: &mut Out, lent: &mut [u32]
 }
 
 /// The kind of the writer, behind those of the calls on a sheet.
-const WRITE: usize = 7;
+const WRITE: usize = 8;
+
+/// The calls by kind, and the answers of each: 0, its refusals, and 10 from open. All must come up, and no others.
+const CALLS: [(&str, &[RangeInclusive<usize>]); 9] = [
+    ("open", &[0..=10]), ("rain", &[0..=14]), ("irrigation", &[0..=14]), ("close", &[0..=11, 14..=14]),
+    ("loss", &[0..=10, 17..=17]), ("probe", &[0..=11, 18..=19]), ("plan", &[0..=11, 15..=16]),
+    ("table", &[0..=7, 15..=15]), ("write", &[0..=0, 4..=7, 15..=15]),
+];
 
 /// `out` and the bytes lent to the writer.
 type Sheet = (Out, Vec<u8>);
@@ -141,7 +152,7 @@ fn noisy(noise: u32) -> Out {
     std::array::from_fn(|i| noise.wrapping_mul(i as u32 + 1))
 }
 
-struct Tally { cases: u64, answers: [[u64; 18]; 8], guards: Guards }
+struct Tally { cases: u64, answers: [[u64; 20]; 9], guards: Guards }
 
 impl Tally {
     /// One case: both are asked the same, with the same noise in what is lent.
@@ -178,8 +189,8 @@ impl Tally {
     /// All calls on a sheet.
     fn all(&mut self, g: &mut Dice, sheet: &[u8], area: &[u8]) {
         let (depths, rows) = (g.pick(&[0, 1, 5, 11, 274, 275, 276]), g.pick(&[0, 5, 6, 11, 12, 167, 168, 173, 174, 175]));
-        let (a, b, ky) = (random::amount(g), random::amount(g), random::ky(g));
-        let on_journal = [Ask::Open, Ask::Rain(a), Ask::Irrigation(b), Ask::Close, Ask::Loss(ky)];
+        let (a, b, ky, probes) = (random::amount(g), random::amount(g), random::ky(g), random::probes(g));
+        let on_journal = [Ask::Open, Ask::Rain(a), Ask::Irrigation(b), Ask::Close, Ask::Loss(ky), Ask::Probe(probes)];
         for ask in on_journal.into_iter().chain([Ask::Plan(depths), Ask::Table(rows)]) {
             self.same(g, sheet, area, ask);
         }
@@ -388,13 +399,37 @@ fn openings(t: &mut Tally, g: &mut Dice) {
     }
 }
 
+/// The journal of so many days closed without water.
+fn closes(days: u32) -> Vec<u8> {
+    (1..=days).flat_map(|d| book::bytes(book::Entry::Close(d))).collect()
+}
+
+/// A sheet of each refusal, and three accepted.
+fn every_sheet() -> [Vec<u8>; 10] {
+    let sheet = random::sheet(&random::small(127));
+    let spoilt = |changes: &[(usize, u32)]| random::sheet(&random::with(random::small(127), changes));
+    [
+        vec![], [&sheet[..40], &[0x80, 0]].concat(), [&sheet[..], &[29, 0]].concat(), spoilt(&[(2, 32)]),
+        spoilt(&[(3, 200), (4, 76)]), spoilt(&[(35, 21)]), spoilt(&[(39, 2_001)]), spoilt(&[(39, 2_000)]),
+        spoilt(&[(41, 29)]), sheet,
+    ]
+}
+
+/// Areas of those sheets: none, blank, torn at 0 and at 2, damaged, too long, four days closed, three closed.
+fn every_area() -> [Vec<u8>; 8] {
+    let torn = |before: &[u8]| [before, &[1, 0xac, 0xff, 0xff]].concat();
+    [
+        vec![], vec![0xff; 8], torn(&[]), torn(&[3, 1]), vec![0xff, 0xac, 0xff, 0xff], vec![0xff; 8_193], closes(4),
+        closes(3),
+    ]
+}
+
 /// Lost yield: document 02's cases, the largest sums, and every Ky at an edge on journals and sheets of every kind.
 fn losses(t: &mut Tally, g: &mut Dice) {
     let small = random::small(127);
     let dry = random::with(small, &[(39, 1_500)]);
     let twos = random::with(dry, &[(3, 2), (4, 2), (5, 2), (6, 2)]);
     let needless = random::with(small, &[(10, 0)]);
-    let closes = |days| (1..=days).flat_map(|d| book::bytes(book::Entry::Close(d))).collect::<Vec<u8>>();
     // So many dry days closed: F, need and use of each stage, and the losses by each Ky.
     let cases: [(Fields, u32, [u32; 9], &[(u32, [u32; 5])]); 6] = [
         (small, 0, [0; 9], &[(200, [0; 5])]),
@@ -418,12 +453,12 @@ fn losses(t: &mut Tally, g: &mut Dice) {
             assert_eq!((&out[..2], &out[2..7]), (&[0, 0][..], &want[..]), "document 02's losses, Ky {ky}, {fields:?}");
         }
     }
-    let (torn, torn_later, damaged) = ([1, 0xac, 0xff, 0xff], [3, 1, 1, 0xac, 0xff, 0xff], [0xff, 0xac, 0xff, 0xff]);
-    let (closed, blank, long) = (closes(4), [0xff; 8], [0xff; 8_193]);
-    let refused: [(&[u8], u32, [u32; 2]); 10] = [
-        (&torn, 0, [17, 0]), (&torn, 1, [10, 0]), (&torn_later, 201, [17, 0]), (&torn_later, 200, [10, 2]),
-        (&damaged, 0, [9, 0]), (&long, 201, [8, 0]), (&closed, 201, [17, 0]), (&closed, 0, [17, 0]),
-        (&blank, u32::MAX, [17, 0]), (&[], 0, [17, 0]),
+    let (sheets, areas) = (every_sheet(), every_area());
+    let [none, blank, torn, torn_later, damaged, long, closed, _] = &areas;
+    let refused = [
+        (torn, 0, [17, 0]), (torn, 1, [10, 0]), (torn_later, 201, [17, 0]), (torn_later, 200, [10, 2]),
+        (damaged, 0, [9, 0]), (long, 201, [8, 0]), (closed, 201, [17, 0]), (closed, 0, [17, 0]),
+        (blank, u32::MAX, [17, 0]), (none, 0, [17, 0]),
     ];
     let sheet = random::sheet(&small);
     for (area, ky, want) in refused {
@@ -440,24 +475,84 @@ fn losses(t: &mut Tally, g: &mut Dice) {
         let out = t.same(g, &most, &area, Ask::Loss(ky));
         assert_eq!(out[2..7], [(100 * ky).min(10_000); 5], "no use at all, Ky {ky}");
     }
-    // A sheet of each refusal, and three accepted.
-    let spoilt = |changes: &[(usize, u32)]| random::sheet(&random::with(small, changes));
-    let sheets = [
-        vec![], [&sheet[..40], &[0x80, 0]].concat(), [&sheet[..], &[29, 0]].concat(), spoilt(&[(2, 32)]),
-        spoilt(&[(3, 200), (4, 76)]), spoilt(&[(35, 21)]), spoilt(&[(39, 2_001)]), spoilt(&[(39, 2_000)]), spoilt(&[(41, 29)]), sheet,
-    ];
     for (number, sheet) in [1, 2, 3, 4, 5, 6, 7].into_iter().zip(&sheets) {
-        assert_eq!(t.same(g, sheet, &long, Ask::Loss(0))[0], number, "the sheet is judged first");
+        assert_eq!(t.same(g, sheet, long, Ask::Loss(0))[0], number, "the sheet is judged first");
     }
-    let areas: [&[u8]; 8] = [&[], &blank, &torn, &torn_later, &damaged, &long, &closed, &closed[..6]];
-    for (sheet, area) in sheets.iter().flat_map(|s| areas.map(|a| (s, a))) {
+    for (sheet, area) in sheets.iter().flat_map(|s| areas.iter().map(move |a| (s, a))) {
         for ky in random::KYS {
             t.same(g, sheet, area, Ask::Loss(ky));
         }
     }
 }
 
-/// Plans, tables and losses of long seasons, on clean journals.
+/// Soil probes: cases by a separate reading of document 02, every value, kind and capacity at an edge on journals and
+/// sheets of every kind, then random ones in seasons of all lengths.
+fn probes(t: &mut Tally, g: &mut Dice) {
+    for case in cases::PROBES {
+        let sheet = random::sheet(&random::with(random::small(127), case.changes));
+        let out = t.same(g, &sheet, case.area, Ask::Probe(case.probes));
+        assert_eq!(out[..case.want.len()], *case.want, "{:?} on {:02x?}", case.probes, case.area);
+    }
+    let (sheets, areas) = (every_sheet(), every_area());
+    let values = cases::CONTENTS.map(|(bits, _)| f32::from_bits(bits));
+    let readings: Vec<Reading> = random::KINDS.iter().flat_map(|&k| values.map(|v| (k, v))).collect();
+    for (sheet, area) in sheets.iter().flat_map(|s| areas.iter().map(move |a| (s, a))) {
+        for (&reading, capacity) in readings.iter().flat_map(|r| random::CAPACITIES.map(move |c| (r, c))) {
+            let other = (g.of(0, 2), 0.25);
+            let (shallow, deep) = if g.one_in(2) { (reading, other) } else { (other, reading) };
+            t.same(g, sheet, area, Ask::Probe(Probes { shallow, deep, capacity }));
+        }
+    }
+    for round in 0..40_000 {
+        let sheet = random::sheet(&random::fields(g, if round % 4 == 0 { plain::DAYS as u32 } else { 12 }));
+        let season = plain::read_sheet(&sheet).unwrap();
+        let (clean, _) = random::journal(g, &season, &sheet, 1_300);
+        let spoilt = random::any_journal(g, &season, &sheet, 1_300);
+        for area in [&clean, &clean, &clean, &clean, &spoilt] {
+            let probes = random::probes(g);
+            t.same(g, &sheet, area, Ask::Probe(probes));
+        }
+    }
+}
+
+/// Asks that show a content's v where the measured depletion is f − v, at most 4,000: alone with f 4,000, which shows
+/// it below 4,000, and with f 6,000; beside v 0 and beside v 1 with f 6,000, which show it from 4,000 on as the sum of
+/// both means.
+fn showing(value: f32) -> [Probes; 4] {
+    let (silent, water) = ((0, value), (1, value));
+    [(water, silent, 4_000), (silent, water, 6_000), (water, (1, 0.0), 6_000), ((1, 0.00015), water, 6_000)]
+        .map(|(shallow, deep, capacity)| Probes { shallow, deep, capacity })
+}
+
+/// Contents by their bits: both sides of every ten-thousandth and the edges, with either sign, where the library must
+/// show each v from 0 to 10,000; then ten million, one in four of any bits, the others from 0.0001 to a little above 1.
+fn contents(t: &mut Tally, g: &mut Dice) {
+    let sheet = random::sheet(&random::with(random::small(127), &[(34, 400), (35, 10), (36, 10)]));
+    let mut shown = [false; 10_001];
+    let beside = (0..=10_000).flat_map(|v| (-3..=3).map(move |above| random::beside(v, above)));
+    let edges = cases::CONTENTS.map(|(bits, _)| f32::from_bits(bits));
+    for value in beside.chain(edges).flat_map(|v| [v, -v]) {
+        let outs = showing(value).map(|p| t.same(g, &sheet, &[0xff; 8], Ask::Probe(p)));
+        let v = match outs.map(|out| (out[0], out[3])) {
+            [(0, low @ 1..), ..] => Some(4_000 - low),
+            [(0, _), (0, _), (0, a), (0, b)] => Some(12_000 - a - b),
+            _ => None,
+        };
+        assert_eq!(v, book::content(value), "content {:08x}: {outs:?}", value.to_bits());
+        if let Some(v) = v {
+            shown[v as usize] = true;
+        }
+    }
+    assert_eq!(shown.iter().position(|s| !s), None, "a v that no content has shown");
+    let (least, most) = (0.0001f32.to_bits(), 1f32.to_bits() + 9);
+    for _ in 0..10_000_000 {
+        let bits = if g.one_in(4) { g.next() as u32 } else { g.of(least, most) };
+        let probes = g.pick(&showing(f32::from_bits(bits)));
+        t.same(g, &sheet, &[0xff; 8], Ask::Probe(probes));
+    }
+}
+
+/// Plans, tables, losses and probes of long seasons, on clean journals.
 fn plans(t: &mut Tally, g: &mut Dice) {
     for _ in 0..20_000 {
         let sheet = random::sheet(&random::fields(g, plain::DAYS as u32));
@@ -468,8 +563,9 @@ fn plans(t: &mut Tally, g: &mut Dice) {
             t.same(g, &sheet, &area, Ask::Plan(room));
         }
         t.same(g, &sheet, &[], Ask::Table(6 * plain::ROWS));
-        let ky = g.of(1, 200);
+        let (ky, probes) = (g.of(1, 200), random::probes(g));
         t.same(g, &sheet, &area, Ask::Loss(ky));
+        t.same(g, &sheet, &area, Ask::Probe(probes));
     }
 }
 
@@ -501,8 +597,18 @@ fn as_the_book(sheet: &[u8], area: &[u8], ask: Ask, out: Out, want: &[u32]) {
     }
 }
 
+/// The loss and the depletion by the probes, which must be those of the book's ledger.
+fn loss_and_probe(t: &mut Tally, g: &mut Dice, (sheet, area): (&[u8], &[u8]), book: &Book, ky: u32) {
+    let lost = t.same(g, sheet, area, Ask::Loss(ky));
+    as_the_book(sheet, area, Ask::Loss(ky), lost, &numbers::lost(book.loss(ky)));
+    let probes = random::probes(g);
+    let probed = t.same(g, sheet, area, Ask::Probe(probes));
+    let want = numbers::probed(book.probe(probes.shallow, probes.deep, probes.capacity));
+    as_the_book(sheet, area, Ask::Probe(probes), probed, &want);
+}
+
 /// Histories: after every call each cut is opened, and asked what comes next; then one of the cuts is what happened.
-/// The losses are those of the book's ledger, after each cut by one Ky and after the last call by each at an edge.
+/// Losses and probes are asked after each cut, by one Ky, and after the last call by each at an edge.
 fn histories(t: &mut Tally, g: &mut Dice) -> (u64, u64, u64) {
     let (mut calls, mut torn, mut cut_openings) = (0, 0, 0);
     for history in 1..=2_400 {
@@ -546,8 +652,7 @@ fn histories(t: &mut Tally, g: &mut Dice) -> (u64, u64, u64) {
                 cut_openings += (call == Call::Open && 0 < done && done < handed.len()) as u64;
                 let found = t.same(g, &sheet, &cut, Ask::Open);
                 as_the_book(&sheet, &cut, Ask::Open, found, &numbers::opened(after.open()));
-                let lost = t.same(g, &sheet, &cut, Ask::Loss(ky));
-                as_the_book(&sheet, &cut, Ask::Loss(ky), lost, &numbers::lost(after.loss(ky)));
+                loss_and_probe(t, g, (&sheet, &cut), &after, ky);
                 for next in [Ask::Close, Ask::Rain(amount), Ask::Irrigation(amount)] {
                     t.same(g, &sheet, &cut, next);
                 }
@@ -560,8 +665,7 @@ fn histories(t: &mut Tally, g: &mut Dice) -> (u64, u64, u64) {
         }
         t.same(g, &sheet, &area, Ask::Plan(plain::DAYS));
         for ky in random::KYS {
-            let lost = t.same(g, &sheet, &area, Ask::Loss(ky));
-            as_the_book(&sheet, &area, Ask::Loss(ky), lost, &numbers::lost(book.loss(ky)));
+            loss_and_probe(t, g, (&sheet, &area), &book, ky);
         }
     }
     (calls, torn, cut_openings)
@@ -581,7 +685,10 @@ fn ends(lent: &[u32]) -> Vec<u32> {
 struct Long { sheet: &'static mut [u8], february: u32, area: &'static mut [u8], lent: [&'static mut [u32]; 2], cases: u64 }
 
 /// The calls on a journal; a plan of the small sheet takes four numbers.
-const ON_JOURNAL: [Ask; 6] = [Ask::Open, Ask::Rain(300), Ask::Irrigation(700), Ask::Close, Ask::Loss(100), Ask::Plan(4)];
+const ON_JOURNAL: [Ask; 7] = [
+    Ask::Open, Ask::Rain(300), Ask::Irrigation(700), Ask::Close, Ask::Loss(100),
+    Ask::Probe(Probes { shallow: (1, 0.25), deep: (1, 0.35), capacity: 3_500 }), Ask::Plan(4),
+];
 
 const SMALL: usize = 41;
 
@@ -705,15 +812,17 @@ fn main() {
     let seed = std::env::args().nth(1).map_or(20_261_115, |s| s.parse().expect("the seed is a number"));
     println!("seed {seed}");
     let mut g = Dice(seed);
-    let mut t = Tally { cases: 0, answers: [[0; 18]; 8], guards: Guards::new() };
+    let mut t = Tally { cases: 0, answers: [[0; 20]; 9], guards: Guards::new() };
     memory::report_faults();
-    let parts: [(&str, fn(&mut Tally, &mut Dice)); 9] = [
+    let parts: [(&str, fn(&mut Tally, &mut Dice)); 11] = [
         ("sheets, valid and damaged", sheets), ("sheets written", writer), ("forty-first numbers by document 02", forty_first),
         ("the longest season and a day more, from every date", longest),
         ("areas of 0 to 8,193 bytes", lengths), ("journals clean, torn and damaged", journals),
         ("openings by document 02", openings),
         ("lost yield, document 02's cases and every Ky at an edge", losses),
-        ("plans, tables and losses of long seasons", plans),
+        ("soil probes, cases by a separate reading and every value at an edge", probes),
+        ("water contents by their bits", contents),
+        ("plans, tables, losses and probes of long seasons", plans),
     ];
     for (name, part) in parts {
         let before = t.cases;
@@ -725,10 +834,13 @@ fn main() {
     println!("histories, a cut after every store: {} cases, {calls} calls, {torn} torn openings, {cut} cuts within an opening's stores", t.cases - before);
     println!("guard pages: {} buffers ended before one, {} began behind one", t.guards.ended, t.guards.began);
     println!("lengths of 2^16, 2^31 and 2^32 and more: {} cases beside those counted below", long_lengths());
-    let names = ["open", "rain", "irrigation", "close", "loss", "plan", "table", "write"];
-    for (name, seen) in names.iter().zip(t.answers) {
-        let seen: Vec<String> = seen.iter().enumerate().filter(|(_, n)| **n > 0).map(|(k, n)| format!("{k}: {n}")).collect();
-        println!("{name}, answers by number: {}", seen.join(", "));
+    for ((name, given), seen) in CALLS.iter().zip(t.answers) {
+        let came: Vec<String> = (0..).zip(seen).filter(|(_, n)| *n > 0).map(|(k, n)| format!("{k}: {n}")).collect();
+        println!("{name}, answers by number: {}", came.join(", "));
+        for (number, count) in seen.into_iter().enumerate() {
+            let gives = given.iter().any(|numbers| numbers.contains(&number));
+            assert_eq!(count > 0, gives, "{name}, answer {number}: {count} times");
+        }
     }
     println!("{} cases, library and plain implementation agree on every number", t.cases);
 }

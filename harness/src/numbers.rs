@@ -1,6 +1,6 @@
 //! The numbers that the exported calls write to `out`, made of the plain implementation's answers: the refusal's number,
 //! the number returned with it, then the answer.
-use crate::plain::{Ledger, Lost, Opened, Opening, Planned, Recorded, Tabled, Written};
+use crate::plain::{Ledger, Lost, Opened, Opening, Planned, Probed, Recorded, Tabled, Written};
 
 fn found(number: u32, place: usize, l: Ledger) -> Vec<u32> {
     let depths = [l.day, l.depletion, l.waiting_rain, l.waiting_irrigation, l.rain, l.irrigation, l.used, l.percolation];
@@ -36,6 +36,10 @@ pub fn recorded(r: Recorded) -> Vec<u32> {
 pub fn lost(l: Lost) -> Vec<u32> {
     let [a, b, c, d] = l.stages;
     answered(l.number, l.value, &[l.season, a, b, c, d])
+}
+
+pub fn probed(p: Probed) -> Vec<u32> {
+    answered(p.number, p.value, &[p.depletion, p.measured])
 }
 
 pub fn planned(p: Planned) -> Vec<u32> {

@@ -1,4 +1,5 @@
-//! Random sheets and journals, from one seed.
+//! Random sheets, journals and probes, from one seed.
+use crate::cases;
 use crate::plain::book;
 use crate::plain::*;
 
@@ -213,6 +214,57 @@ pub fn ky(g: &mut Dice) -> u32 {
         2 => g.of(1, 200),
         _ => g.next() as u32 >> g.of(0, 31),
     }
+}
+
+/// What a call on probes is given. It is shown by the bits, which tell one NaN from another.
+#[derive(Clone, Copy)]
+pub struct Probes { pub shallow: Reading, pub deep: Reading, pub capacity: u32 }
+
+impl std::fmt::Debug for Probes {
+    fn fmt(&self, f: &mut std::fmt::Formatter) -> std::fmt::Result {
+        let Probes { shallow: (a, x), deep: (b, y), capacity } = *self;
+        write!(f, "shallow {a} {:08x}, deep {b} {:08x}, capacity {capacity}", x.to_bits(), y.to_bits())
+    }
+}
+
+/// Kinds of what a probe gives: a content, low, silent, and silent but a content to whoever keeps 8, 16 or 31 bits.
+pub const KINDS: [u32; 8] = [1, 2, 0, 3, 257, 65_537, 0x8000_0001, u32::MAX];
+
+/// Field capacities at the edges of their range, past them, and in it to whoever keeps 14, 16 or 31 bits.
+pub const CAPACITIES: [u32; 11] = [0, 1, 2, 3_000, 5_999, 6_000, 6_001, 16_777, 65_537, 0x8000_0001, u32::MAX];
+
+/// The f32 so many places above the one nearest to v / 10,000.
+pub fn beside(v: u32, above: i32) -> f32 {
+    f32::from_bits((v as f32 / 10_000.0).to_bits().wrapping_add_signed(above))
+}
+
+/// A probe's value: any bits, at an edge, a content of any size, beside a ten-thousandth, or near where the answer
+/// turns: at the capacity, and where the measured depletion comes to the total water of the sheets above.
+fn value(g: &mut Dice, capacity: u32) -> f32 {
+    let near = match g.of(0, 9) {
+        0 => return f32::from_bits(g.next() as u32),
+        1 => return f32::from_bits(g.pick(&cases::CONTENTS).0),
+        2 | 3 => return f32::from_bits(g.of(0.0001f32.to_bits(), 1f32.to_bits())),
+        4 | 5 => g.of(0, 10_000),
+        _ => capacity.saturating_sub(g.pick(&[0, 10, 200, 1_400, 4_000])).clamp(1, 9_999) + g.of(0, 2) - 1,
+    };
+    beside(near, g.of(0, 6) as i32 - 3)
+}
+
+/// One such value of a kind, mostly a content.
+fn reading(g: &mut Dice, capacity: u32) -> Reading {
+    let kind = if g.one_in(4) { g.pick(&KINDS) } else { 1 };
+    (kind, value(g, capacity))
+}
+
+/// What two probes give, with a capacity at an edge, in its range or any.
+pub fn probes(g: &mut Dice) -> Probes {
+    let capacity = match g.of(0, 9) {
+        0 => g.pick(&CAPACITIES),
+        1 => g.next() as u32 >> g.of(0, 31),
+        _ => g.of(1, 6_000),
+    };
+    Probes { shallow: reading(g, capacity), deep: reading(g, capacity), capacity }
 }
 
 /// A clean journal made with the calls themselves.

@@ -173,6 +173,28 @@ fn loss_line<'a>(name: &str, sheet: &'a [u8], areas: &'a [Vec<u8>]) -> Line<'a> 
     )
 }
 
+/// Both probes give a content.
+fn probe_line<'a>(name: &str, sheet: &'a [u8], areas: &'a [Vec<u8>]) -> Line<'a> {
+    let (shallow, deep, f) = ((1, 0.19), (1, 0.23), 3_000);
+    let mut out = [NOISE; OUT];
+    for area in areas {
+        out = [NOISE; OUT];
+        library::probe_of_any_kind(sheet, area, shallow, deep, f, &mut out);
+        same(name, library::ACCEPTED, &out, &numbers::probed(plain::probe(sheet, area, shallow, deep, f)));
+    }
+    line(
+        format!("probe: {name}"),
+        in_turn(areas, move |area| {
+            let (shallow, deep, f) = black_box((shallow, deep, f));
+            library::probe_of_any_kind(black_box(sheet), area, shallow, deep, f, black_box(&mut out))
+        }),
+        in_turn(areas, move |area| {
+            let (shallow, deep, f) = black_box((shallow, deep, f));
+            black_box(plain::probe(black_box(sheet), area, shallow, deep, f));
+        }),
+    )
+}
+
 fn plan_line<'a>(name: &str, sheet: &'a [u8], area: &'a [u8]) -> Line<'a> {
     let (mut out, mut ours, mut theirs) = ([NOISE; OUT], [0; 275], [0; 275]);
     library::plan(sheet, area, &mut ours, &mut out);
@@ -223,6 +245,7 @@ fn main() {
     let (uneven_left, season_left) = (journals(|j| mixed(j, 8)), journals(|j| usual(j, 274)));
     let other_season = journals(|j| usual(32 + j, 275)); // opening's would be foretold from the lines before
     let cut_season = journals(|j| torn(64 + j));
+    let open_season = journals(|j| usual(96 + j, 274));
     let empty = [Vec::new()];
     let mut g = Dice(1);
     let fields: Vec<Fields> = (0..32).map(|_| random::ordinary(&mut g, 275)).collect();
@@ -240,6 +263,7 @@ fn main() {
         rain_line("274 closed days", &sheet, &closed_left),
         rain_line("a usual season", &sheet, &season_left),
         loss_line("8,192 bytes, a usual season", &sheet, &other_season),
+        probe_line("8,192 bytes, a usual season", &sheet, &open_season),
         plan_line("few", &few, &blank[0][..64]),
         plan_line("many", &many, &blank[0][..64]),
         table_line(&sheet),

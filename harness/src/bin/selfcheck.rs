@@ -1,11 +1,13 @@
 //! Checks the plain implementation itself: against the documents' own numbers, a second reader and writer of sheets, a
-//! list of the year's days, slow rules, every choice of waterings in small seasons, the book, and a literal reading of
-//! what an opening finds. It takes some minutes; 10 percent of the rounds take seconds. Status 1 at a mismatch.
+//! list of the year's days, water contents by their decimals, slow rules, every choice of waterings in small seasons,
+//! the book, and a literal reading of what an opening finds. It takes some minutes; 10 percent of the rounds take
+//! seconds. Status 1 at a mismatch.
 //!
 //!     cargo run --release --manifest-path harness/Cargo.toml --bin selfcheck [SEED [PERCENT OF THE ROUNDS]]
 use harness::plain::book::{self, Book, Call};
 use harness::plain::*;
-use harness::random::{self, small, with, Dice, Fields};
+use harness::random::{self, small, with, Dice, Fields, Probes};
+use harness::{cases, numbers};
 
 struct Tally { compared: u64, wrong: u64 }
 
@@ -247,6 +249,94 @@ fn losses() -> (u64, u64) {
     t.report("lost yield, document 02's numbers")
 }
 
+// ------------------------------------------------------------------ soil probes
+
+/// A content's ten-thousandths: all its decimals, cut behind the fourth. None where it is no number from 0 to 1.
+fn slow_content(value: f32) -> Option<u32> {
+    if value.is_nan() || value < 0.0 || value > 1.0 {
+        return None;
+    }
+    format!("{:.149}", value.abs())[..6].replace('.', "").parse().ok()
+}
+
+/// The greatest depth that the growth so far allows, centimetre by centimetre.
+fn slow_depth(s: &Season, day: u32) -> u32 {
+    let growing = s.stages[0] + s.stages[1];
+    let grown = |z: &u32| (z - s.sown) * growing <= (s.full - s.sown) * growing.min(day);
+    (s.sown..=s.full).rev().find(grown).unwrap()
+}
+
+/// The probe call by the list of refusals, on what an opening finds.
+fn slow_probe(s: &Season, found: Opening, p: Probes) -> Probed {
+    let refused = |number, value| Probed { number, value, ..Probed::default() };
+    let l = match found {
+        Opening::Refused(number, value) => return refused(number, value),
+        Opening::Torn(_, place) => return refused(10, place),
+        Opening::Clean(l) if l.day > s.days => return refused(11, 0),
+        Opening::Clean(l) => l,
+    };
+    let (mut sum, mut contents) = (0, 0);
+    for (kind, value) in [p.shallow, p.deep] {
+        match slow_content(value) {
+            Some(v) if kind == 1 => (sum, contents) = (sum + v, contents + 1),
+            None if kind == 1 => return refused(18, 0),
+            _ => {}
+        }
+    }
+    if p.capacity == 0 || p.capacity > 6_000 {
+        return refused(18, 0);
+    }
+    if contents == 0 {
+        return refused(19, 0);
+    }
+    let v = (sum - sum % contents) / contents;
+    let depth = slow_depth(s, l.day);
+    let points = if v < p.capacity { (p.capacity - v) * depth } else { 0 };
+    let total = s.available * depth;
+    let measured = if points >= 10 * total { total } else { (points - points % 10) / 10 };
+    Probed { number: 0, value: 0, depletion: l.depletion, measured }
+}
+
+fn probed(sheet: &[u8], area: &[u8], p: Probes) -> Probed {
+    probe(sheet, area, p.shallow, p.deep, p.capacity)
+}
+
+/// Cases of T-07 by a separate reading, contents against their decimals, random probes on every day of long seasons.
+fn probes(g: &mut Dice, percent: u32) -> (u64, u64) {
+    let mut t = tally();
+    let by_plain = |value| content((1, value)).unwrap_or(None);
+    for (bits, v) in cases::CONTENTS {
+        let value = f32::from_bits(bits);
+        t.same(|| format!("content {bits:08x}"), [by_plain(value), book::content(value), slow_content(value)], [v; 3]);
+    }
+    for case in cases::PROBES {
+        let sheet = random::sheet(&with(small(127), case.changes));
+        let got = numbers::probed(probed(&sheet, case.area, case.probes));
+        t.same(|| format!("{:?} on {:02x?}", case.probes, case.area), &got[..], case.want);
+    }
+    let mut any_bits = || if g.one_in(2) { g.next() as u32 } else { g.of(0x3800_0000, 0x3f80_0009) };
+    let any: Vec<f32> = (0..5_000 * percent).map(|_| f32::from_bits(any_bits())).collect();
+    let beside = (0..=10_000).flat_map(|v| (-3..=3).map(move |above| random::beside(v, above)));
+    for value in beside.chain(any).flat_map(|v| [v, -v]) {
+        let want = slow_content(value);
+        t.same(|| format!("content {:08x}", value.to_bits()), [by_plain(value), book::content(value)], [want; 2]);
+    }
+    let mut seen = [0u32; 20];
+    for _ in 0..20 * percent {
+        let f = random::fields(g, DAYS as u32);
+        let sheet = random::sheet(&f);
+        let s = read_sheet(&sheet).unwrap();
+        for closed in 0..=s.days {
+            let (area, p) = (closes(closed), random::probes(g));
+            let want = slow_probe(&s, Opening::Clean(opened_after(&f, &area)), p);
+            seen[want.number as usize] += 1;
+            t.same(|| format!("{p:?}, {closed} days of {f:?}"), probed(&sheet, &area, p), want);
+        }
+    }
+    println!("probes by answer, 0 accepted: {seen:?}");
+    t.report("soil probes")
+}
+
 // ------------------------------------------------------------------ the days of February
 
 /// Document 02's cases of T-06, then tables and needs from every date by a list of the year's days.
@@ -478,7 +568,7 @@ fn writer(g: &mut Dice, percent: u32) -> (u64, u64) {
     t.report("the writer, second writer and reader")
 }
 
-/// Tables, plans, stage sums and losses of long seasons by the slow rules.
+/// Tables, plans, stage sums, losses and probes of long seasons by the slow rules.
 fn long_seasons(g: &mut Dice, percent: u32) -> (u64, u64) {
     let mut t = tally();
     let (mut refused, mut stressed) = (0, 0);
@@ -531,6 +621,9 @@ fn long_seasons(g: &mut Dice, percent: u32) -> (u64, u64) {
         let found = if ended { Opening::Refused(9, l.place) } else { Opening::Torn(l, l.place) };
         t.same(|| format!("spoilt loss {ky} {f:?}"), loss(&sheet, &spoilt, ky), slow_losses(found, ky));
         t.same(|| format!("loss {ky} {f:?}"), loss(&sheet, &area, ky), slow_losses(Opening::Clean(l), ky));
+        let given = random::probes(g);
+        t.same(|| format!("spoilt {given:?} {f:?}"), probed(&sheet, &spoilt, given), slow_probe(&s, found, given));
+        t.same(|| format!("{given:?} {f:?}"), probed(&sheet, &area, given), slow_probe(&s, Opening::Clean(l), given));
         stressed += (l.used < l.need) as u32;
         if ended {
             t.same(|| format!("closed plan {f:?}"), refusal(&area, 0), (11, 0, 0, true));
@@ -763,6 +856,9 @@ fn histories(g: &mut Dice, percent: u32) -> (u64, u64) {
                     }
                     let what = || format!("loss {ky} after {done} of {call:?}: {a:02x?}");
                     t.same(what, loss(&sheet, &a, ky), b.loss(ky));
+                    let p = random::probes(g);
+                    let what = || format!("{p:?} after {done} of {call:?}: {a:02x?} of {f:?}");
+                    t.same(what, probed(&sheet, &a, p), b.probe(p.shallow, p.deep, p.capacity));
                 }
             }
             let done = if g.one_in(if calm { 12 } else { 3 }) { g.of(0, all as u32) as usize } else { all };
@@ -778,6 +874,9 @@ fn histories(g: &mut Dice, percent: u32) -> (u64, u64) {
         t.same(|| format!("sums {l:?}"), adds_up(&l), true);
         for ky in random::KYS {
             t.same(|| format!("last loss {ky}: {area:02x?} of {f:?}"), loss(&sheet, &area, ky), book.loss(ky));
+            let p = random::probes(g);
+            let what = || format!("last {p:?}: {area:02x?} of {f:?}");
+            t.same(what, probed(&sheet, &area, p), book.probe(p.shallow, p.deep, p.capacity));
         }
     }
     println!("{histories} histories, {calls} calls, {cuts} cuts opened, {torn_openings} of them torn, {cut_openings} within an opening's stores; latest open day {longest}, longest journal {fullest}");
@@ -852,6 +951,8 @@ fn any_bytes(g: &mut Dice, percent: u32) -> (u64, u64) {
         t.same(|| format!("sums {l:?}"), adds_up(&l), true);
         let ky = random::ky(g);
         t.same(|| format!("loss {ky} of {area:02x?} of {f:?}"), loss(&sheet, &area, ky), slow_losses(want, ky));
+        let p = random::probes(g);
+        t.same(|| format!("{p:?} on {area:02x?} of {f:?}"), probed(&sheet, &area, p), slow_probe(&s, want, p));
     }
     println!("any bytes: clean {}, torn {}, damaged {}", seen[0], seen[1], seen[2]);
     t.same(|| "8,193 bytes".into(), open(&random::sheet(&small(1)), &[0xff; 8_193]).opening, Opening::Refused(8, 0));
@@ -880,7 +981,8 @@ fn main() {
     println!("seed {seed}, {percent} percent");
     let mut g = Dice(seed);
     let parts = [daggers(), losses(), februaries(), sheet_bytes(&mut g, percent), writer(&mut g, percent),
-        long_seasons(&mut g, percent), brute(&mut g, percent), histories(&mut g, percent), any_bytes(&mut g, percent)];
+        probes(&mut g, percent), long_seasons(&mut g, percent), brute(&mut g, percent), histories(&mut g, percent),
+        any_bytes(&mut g, percent)];
     let (compared, wrong) = parts.iter().fold((0, 0), |a, p| (a.0 + p.0, a.1 + p.1));
     println!("in all: {compared} compared, {wrong} mismatches");
     std::process::exit((wrong > 0) as i32);

@@ -1,0 +1,94 @@
+//! Soil probes by a separate reading of document 02, T-07: what the library and the plain implementation are held
+//! against.
+use crate::plain::Reading;
+use crate::random::Probes;
+
+/// The bits of an f32 and its v; none where it is no number from 0 to 1.
+pub const CONTENTS: [(u32, Option<u32>); 28] = [
+    (0x0000_0000, Some(0)), (0x8000_0000, Some(0)), (0x0000_0001, Some(0)), (0x007f_ffff, Some(0)),
+    (0x0080_0000, Some(0)), (0x38d1_b717, Some(0)), (0x38d1_b718, Some(1)), (0x3951_b717, Some(1)),
+    (0x3e99_999a, Some(3_000)), (0x3eb3_3333, Some(3_499)), (0x3f00_0000, Some(5_000)), (0x3f33_3333, Some(6_999)),
+    (0x3f7f_ffff, Some(9_999)), (0x3f80_0000, Some(10_000)),
+    (0x3f80_0001, None), (0x4000_0000, None), (0x7f7f_ffff, None), (0x7f80_0000, None), (0x7fa0_0000, None),
+    (0x7fc0_0000, None), (0x7fff_ffff, None), (0x8000_0001, None), (0x8080_0000, None), (0xbf00_0000, None),
+    (0xbf80_0000, None), (0xff80_0000, None), (0xffc0_0000, None), (0xffff_ffff, None),
+];
+
+/// A call on the small sheet with some fields changed, and the first numbers of `out`.
+pub struct Case {
+    pub changes: &'static [(usize, u32)], pub area: &'static [u8], pub probes: Probes, pub want: &'static [u32],
+}
+
+const fn case(
+    changes: &'static [(usize, u32)], area: &'static [u8], shallow: Reading, deep: Reading, capacity: u32,
+    want: &'static [u32],
+) -> Case {
+    Case { changes, area, probes: Probes { shallow, deep, capacity }, want }
+}
+
+const SILENT: Reading = (0, 0.0);
+const LOW: Reading = (2, f32::NAN);
+const NO_NUMBER: Reading = (1, f32::NAN);
+
+/// A content.
+const fn water(value: f32) -> Reading {
+    (1, value)
+}
+
+const BLANK: &[u8] = &[0xff; 8];
+const TORN: &[u8] = &[1, 0xac, 0xff, 0xff];
+const TORN_LATER: &[u8] = &[3, 1, 1, 0xac, 0xff, 0xff];
+const DAMAGED: &[u8] = &[0xff, 0xac, 0xff, 0xff];
+const CLOSED: &[u8] = &[3, 1, 3, 2, 3, 3, 3, 4];
+const LONG: &[u8] = &[0xff; 8_193];
+/// A root depth of 21 cm; one of 30 cm on day 1 and 40 from day 2 on.
+const DEEPER: &[(usize, u32)] = &[(35, 21), (36, 21)];
+const GROWING: &[(usize, u32)] = &[(36, 40)];
+
+pub const PROBES: [Case; 41] = [
+    // Z 20, T 2,000.
+    case(&[], BLANK, water(0.25), SILENT, 3_000, &[0, 0, 0, 1_000]),
+    case(&[], BLANK, SILENT, water(0.25), 3_000, &[0, 0, 0, 1_000]),
+    case(&[], BLANK, water(0.25), water(0.5), 3_000, &[0, 0, 0, 0]),
+    case(&[], BLANK, water(0.25), water(0.5), 3_750, &[0, 0, 0, 0]),
+    case(&[], BLANK, water(0.25), water(0.5), 3_751, &[0, 0, 0, 2]),
+    case(&[], BLANK, water(0.35), water(0.35), 3_500, &[0, 0, 0, 2]),
+    case(&[], BLANK, water(0.0), SILENT, 6_000, &[0, 0, 0, 2_000]),
+    case(&[], BLANK, water(0.0), SILENT, 1_001, &[0, 0, 0, 2_000]),
+    case(&[], BLANK, water(0.0), SILENT, 999, &[0, 0, 0, 1_998]),
+    case(&[], BLANK, water(-0.0), SILENT, 1, &[0, 0, 0, 2]),
+    case(&[], BLANK, water(1.0), SILENT, 6_000, &[0, 0, 0, 0]),
+    case(&[(39, 1_500)], BLANK, water(0.25), SILENT, 3_000, &[0, 0, 1_500, 1_000]),
+    case(&[(39, 1_500)], &[1, 7, 2, 9, 0xff], water(0.25), SILENT, 3_000, &[0, 0, 1_500, 1_000]),
+    case(&[], &[3, 1, 3, 2, 3, 3], water(0.25), SILENT, 3_000, &[0, 0, 1_200, 1_000]),
+    // 501 × 21 / 10 is 1,052.1.
+    case(DEEPER, BLANK, SILENT, water(0.25), 3_001, &[0, 0, 0, 1_052]),
+    case(GROWING, BLANK, water(0.25), SILENT, 3_000, &[0, 0, 0, 1_500]),
+    case(GROWING, &[3, 1], water(0.25), SILENT, 3_000, &[0, 0, 200, 2_000]),
+    // The v are 1 and 0, their mean 0.
+    case(GROWING, &[3, 1], water(0.0002), water(0.0001), 10, &[0, 0, 200, 40]),
+    // What is no content is not judged.
+    case(&[], BLANK, LOW, water(0.5), 3_000, &[0, 0, 0, 0]),
+    case(&[], BLANK, LOW, water(0.25), 3_000, &[0, 0, 0, 1_000]),
+    case(&[], BLANK, water(0.25), (2, 0.5), 3_000, &[0, 0, 0, 1_000]),
+    case(&[], BLANK, (3, f32::NAN), water(0.25), 3_000, &[0, 0, 0, 1_000]),
+    case(&[], BLANK, (0x8000_0001, 2.0), water(0.25), 3_000, &[0, 0, 0, 1_000]),
+    case(&[], BLANK, water(0.25), SILENT, 0, &[18, 0]),
+    case(&[], BLANK, water(0.25), SILENT, 6_001, &[18, 0]),
+    case(&[], BLANK, SILENT, SILENT, 0, &[18, 0]),
+    case(&[], BLANK, SILENT, SILENT, 6_001, &[18, 0]),
+    case(&[], BLANK, water(0.5), NO_NUMBER, 3_000, &[18, 0]),
+    case(&[], BLANK, NO_NUMBER, SILENT, 3_000, &[18, 0]),
+    case(&[], BLANK, (u32::MAX, 0.25), SILENT, 3_000, &[19, 0]),
+    case(&[], BLANK, SILENT, SILENT, 3_000, &[19, 0]),
+    case(&[], BLANK, SILENT, LOW, 3_000, &[19, 0]),
+    case(&[], BLANK, LOW, SILENT, 3_000, &[19, 0]),
+    case(&[], CLOSED, water(0.25), SILENT, 0, &[11, 0]),
+    case(&[], CLOSED, SILENT, SILENT, 3_000, &[11, 0]),
+    case(&[], TORN, NO_NUMBER, SILENT, 3_000, &[10, 0]),
+    case(&[], TORN_LATER, SILENT, SILENT, 0, &[10, 2]),
+    case(&[], DAMAGED, NO_NUMBER, SILENT, 0, &[9, 0]),
+    case(&[], LONG, NO_NUMBER, SILENT, 3_000, &[8, 0]),
+    case(&[(39, 2_001)], LONG, NO_NUMBER, SILENT, 0, &[7, 0]),
+    case(&[(2, 32)], LONG, SILENT, SILENT, 3_000, &[4, 2]),
+];
