@@ -69,17 +69,6 @@ lossLines area ky s = journalLines area s ++ ((kyOutside ky, 17, 0) ∷ tornLine
 abbrev pub entryLines : List ℕ → Entry → Season → List Line
 entryLines area e s = openLines area s ++ refusals (seasonDays s) (length area) (ledgerIn s (opening s area)) e
 
--- ---- 18 and 19
-
--- Probe (document 02, T-07): both after 11. A content at fault is 18 in either probe; 19 is no content from either.
-abbrev pub probeLines : List ℕ → Probe → Probe → ℕ → Season → List Line
-probeLines area shallow deep f s =
-    openLines area s
-    ++ ((ltb (seasonDays s) (ledgerIn s (opening s area) .day), 11, 0)
-    ∷ (wrongContent shallow || wrongContent deep || capacityOutside f, 18, 0)
-    ∷ (noContent shallow && noContent deep, 19, 0)
-    ∷ [])
-
 -- ---- 15 and 16
 
 -- The plan from a ledger, and the day with which it is refused: exactly when no choice holds, and with the first day that no choice holds (the
@@ -105,3 +94,14 @@ planLines area room s = openLines area s ++ roomLines s room (ledgerIn s (openin
 -- Table, likewise: six numbers a row.
 abbrev pub tableLines : ℕ → Season → List Line
 tableLines room s = (ltb room (rowCount s * 6), 15, 0) ∷ []
+
+-- ---- 18 and 19
+
+-- Probe (document 02, T-07): both after 11. A content at fault is 18 in either probe; 19 is no content from either.
+abbrev pub probeLines : List ℕ → Probe → Probe → ℕ → Season → List Line
+probeLines area shallow deep f s =
+    openLines area s
+    ++ ((ltb (seasonDays s) (ledgerIn s (opening s area) .day), 11, 0)
+    ∷ (wrongContent shallow || wrongContent deep || capacityOutside f, 18, 0)
+    ∷ (noContent shallow && noContent deep, 19, 0)
+    ∷ [])
