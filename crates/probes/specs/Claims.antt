@@ -11,7 +11,7 @@ use Rattle.probes.specs.Depletion.{measured}
 use Rattle.probes.specs.Cases.{cases}
 
 pub record Claims : Type 0 where
-  -- v / 10,000 is at most the exact value, and (v + 1) / 10,000 is above it.
+  -- v / 10,000 is at most the exact value, but for its sign, and (v + 1) / 10,000 is above it.
   pub greatest : (x : Float) → (tenThousandths x * den x ≤ num x * 10000) × (num x * 10000 < (tenThousandths x + 1) * den x)
   -- A content has at most 10,000 ten-thousandths.
   pub content-at-most : (x : Float) → isContent x ≡ true → tenThousandths x ≤ 10000

@@ -1,4 +1,5 @@
--- Document 02, T-07: a probe's water content, by the exact value of its f32. A float's exact value is `num` / `den`, in the logic's IEEE 754.
+-- Document 02, T-07: a probe's water content, by the exact value of its f32. That is, but for the sign, `num` / `den` in the logic's IEEE 754; a content
+-- with a sign is negative zero.
 use Prim.Native.Nat.{ℕ, _+_, _*_, _/_}
 use mathlib.Core.Bool.{Bool, true, false, not, _&&_, cond}
 use lib.IntN.{pos}
