@@ -1,4 +1,5 @@
 pub mod Lowest
 pub mod Ranges
+pub mod Merged
 pub mod Verdicts
 pub mod Claims

@@ -38,7 +38,7 @@ none-outside i l ls v vs e = go (outside l v) refl
     go false o = (o, ap (λ (j : ℕ). lowestOutside j ls vs) (omega arith) ∙ sym (step-false (suc i) l ls v vs o) ∙ e)
 
 -- Where no field is at fault, each is within its limits.
-all-inside : (i : ℕ) (ls : List Limit) (vs : List ℕ) → lowestOutside (suc i) ls vs ≡ 0
+pub all-inside : (i : ℕ) (ls : List Limit) (vs : List ℕ) → lowestOutside (suc i) ls vs ≡ 0
     → (k : ℕ) → k < length ls → k < length vs → Inside (getD ls k (0, 0)) (getD vs k 0)
 all-inside i [] vs e k p q = absurd (not-suc-le-zero p)
 all-inside i (l ∷ ls) [] e k p q = absurd (not-suc-le-zero q)

@@ -1,12 +1,13 @@
 -- What is proved of this crate's definitions. `claims`, in proofs/Claims.antt, has a proof of each field.
 use Prim.Native.Nat.{ℕ, _≤_, _<_}
 use mathlib.Core.Path.{_≡_}
+use mathlib.Core.Logic.{_↔_}
 use mathlib.Core.List.{List}
 use lib.ListN.{length, getD}
 use Rattle.season.specs.Day.{AcceptedSeason}
 use Rattle.verdict.specs.declared.Verdict.the-variants.{Accepted, Refused}
-use Rattle.fields.specs.Fields.{februaryOf, limits, seasonOf}
-use Rattle.fields.specs.Refusals.{fieldsVerdict}
+use Rattle.fields.specs.Fields.{februaryOf, limits, seasonOf, merged, blockFields}
+use Rattle.fields.specs.Refusals.{seasonLines, fieldsVerdict, climateVerdict, blockVerdict}
 
 pub record Claims : Type 0 where
   -- Forty or forty-one numbers that refusals 4 to 7 leave are each within their limits,
@@ -19,3 +20,11 @@ pub record Claims : Type 0 where
   pub february-leap : (f : List ℕ) → length f ≡ 41 → fieldsVerdict f ≡ Accepted → seasonOf f .february ≡ 29
   -- A refusal is one of 4 to 7, with a field's number or 0.
   pub refused-number : (f : List ℕ) (number value : ℕ) → fieldsVerdict f ≡ Refused number value → ((4 ≤ number) × (number ≤ 7)) × (value ≤ 41)
+  -- A climate's numbers and a block's are accepted together exactly where each are by themselves: any climate goes with any block (document 02, T-08).
+  pub merged-accepted-iff : (c b : List ℕ) → length c ≡ 24 → 16 ≤ length b
+      → (fieldsVerdict (merged c b) ≡ Accepted) ↔ ((climateVerdict c ≡ Accepted) × (blockVerdict b ≡ Accepted))
+  -- Refusals 5 to 7 look at no climate.
+  pub season-lines-alone : (c b : List ℕ) → length c ≡ 24 → 16 ≤ length b → seasonLines (seasonOf (merged c b)) ≡ seasonLines (seasonOf (blockFields b))
+  -- A climate's refusal is 4, a block's one of 4 to 7; with a field's number or 0.
+  pub climate-refused : (c : List ℕ) (number value : ℕ) → climateVerdict c ≡ Refused number value → (number ≡ 4) × (value ≤ 41)
+  pub block-refused : (b : List ℕ) (number value : ℕ) → blockVerdict b ≡ Refused number value → ((4 ≤ number) × (number ≤ 7)) × (value ≤ 41)

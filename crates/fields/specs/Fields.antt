@@ -1,9 +1,9 @@
--- Document 01, 'The season sheet': the fields, their ranges and their names.
+-- Document 01, 'The season sheet': the fields, their ranges and their names; and the two sheets that they stand in (document 02, T-08).
 use Prim.Native.Nat.{ℕ, _+_}
 use mathlib.Core.Bool.{Bool, cond, _||_}
 use mathlib.Core.List.{List, [], _∷_, _++_}
 use lib.Dec.{ltb, eqb}
-use lib.ListN.{getD, replicate}
+use lib.ListN.{getD, replicate, take, drop}
 use Rattle.season.specs.Calendar.{monthDays}
 use Rattle.season.specs.declared.Season.{Season}
 use Rattle.fields.specs.declared.Limit.{Limit}
@@ -55,3 +55,15 @@ seasonIn february f = record {
 
 abbrev pub seasonOf : List ℕ → Season
 seasonOf f = seasonIn (februaryOf f) f
+
+-- A climate sheet has fields 10 to 33, a block sheet the others: its first nine numbers are fields 1 to 9. The fields of both in their order.
+unfoldable pub merged : List ℕ → List ℕ → List ℕ
+merged c b = take 9 b ++ c ++ drop 9 b
+
+-- The number of the field at a place of a block sheet.
+abbrev pub blockField : ℕ → ℕ
+blockField place = cond (ltb place 9) (place + 1) (place + 25)
+
+-- A block's fields with no climate: 0 for each of its numbers.
+abbrev pub blockFields : List ℕ → List ℕ
+blockFields = merged (replicate 24 0)

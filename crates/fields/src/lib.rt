@@ -1,21 +1,48 @@
-// The numbers of a season sheet (document 01): their ranges, their names, and refusals 4 to 7. A sheet has forty, or forty-one with the days of
-// February (document 02, T-06).
+// The numbers of a season (document 01): their ranges, their names, and refusals 4 to 7. Fields 10 to 33 are a climate's; the others are a block's,
+// sixteen numbers, or seventeen with the days of February (document 02, T-06, T-08).
 use season::Season;
 use verdict::Verdict;
-ghost use Prim.Native.Nat.{ℕ, _+_, _≤_};
+ghost use Prim.Native.Nat.{_≤_};
 ghost use mathlib.Core.Path.{_≡_};
-ghost use mathlib.Core.List.{[], _∷_, map};
-ghost use lib.Dec.{ltb};
-ghost use lib.ListN.{length, getD};
-ghost use Rattle.fields.specs.Fields.{februaryOf, limits, outside, seasonOf};
-ghost use Rattle.fields.specs.Refusals.{fieldAtFault, fieldsVerdict};
+ghost use mathlib.Core.List.{_++_};
+ghost use lib.ListN.{length, take, drop};
+ghost use Rattle.fields.specs.Fields.{februaryOf, limits, outside, seasonOf, merged, blockField, blockFields};
+ghost use Rattle.fields.specs.Refusals.{climateAtFault, blockAtFault, climateVerdict, blockVerdict};
 ghost use Rattle.season.specs.Calendar.{monthDays};
 
 // The lowest and the highest number of a field.
 pub struct Limit(u32, u32);
 
-// By field. Field 2's highest is the month's length, which `limits_of` puts in.
-const LIMITS: [Limit; 41] = [
+// Of fields 10 to 33.
+const CLIMATE: [Limit; 24] = [
+    Limit(0, 1500),
+    Limit(0, 1500),
+    Limit(0, 1500),
+    Limit(0, 1500),
+    Limit(0, 1500),
+    Limit(0, 1500),
+    Limit(0, 1500),
+    Limit(0, 1500),
+    Limit(0, 1500),
+    Limit(0, 1500),
+    Limit(0, 1500),
+    Limit(0, 1500),
+    Limit(0, 60000),
+    Limit(0, 60000),
+    Limit(0, 60000),
+    Limit(0, 60000),
+    Limit(0, 60000),
+    Limit(0, 60000),
+    Limit(0, 60000),
+    Limit(0, 60000),
+    Limit(0, 60000),
+    Limit(0, 60000),
+    Limit(0, 60000),
+    Limit(0, 60000),
+];
+
+// Of fields 1 to 9 and 34 to 41. Field 2's highest is the month's length, which `block_limits` puts in.
+const BLOCK: [Limit; 17] = [
     Limit(1, 12),
     Limit(1, 31),
     Limit(1, 200),
@@ -25,30 +52,6 @@ const LIMITS: [Limit; 41] = [
     Limit(10, 200),
     Limit(10, 200),
     Limit(10, 200),
-    Limit(0, 1500),
-    Limit(0, 1500),
-    Limit(0, 1500),
-    Limit(0, 1500),
-    Limit(0, 1500),
-    Limit(0, 1500),
-    Limit(0, 1500),
-    Limit(0, 1500),
-    Limit(0, 1500),
-    Limit(0, 1500),
-    Limit(0, 1500),
-    Limit(0, 1500),
-    Limit(0, 60000),
-    Limit(0, 60000),
-    Limit(0, 60000),
-    Limit(0, 60000),
-    Limit(0, 60000),
-    Limit(0, 60000),
-    Limit(0, 60000),
-    Limit(0, 60000),
-    Limit(0, 60000),
-    Limit(0, 60000),
-    Limit(0, 60000),
-    Limit(0, 60000),
     Limit(1, 400),
     Limit(10, 300),
     Limit(10, 300),
@@ -59,14 +62,14 @@ const LIMITS: [Limit; 41] = [
     Limit(29, 29),
 ];
 
-// The days of February: 29 where a forty-first number says so, and else 28.
-fn february_of(fields: &[u32]) -> u32
-    ensures { λ r. ⌜ r ≡ februaryOf (now (fields .entry)) ⌝ }
+// The days of February: 29 where a block's seventeenth number says so, and else 28.
+fn february_of(block: &[u32]) -> u32
+    ensures { λ r. ⌜ r ≡ februaryOf (blockFields (now (block .entry))) ⌝ }
 {
-    if fields.len() <= 40 {
+    if block.len() <= 16 {
         return 28;
     }
-    if fields[40] == 29 { 29 } else { 28 }
+    if block[16] == 29 { 29 } else { 28 }
 }
 
 // ---- refusal 4
@@ -84,12 +87,13 @@ fn month_length(february: u32, month: u32) -> u32
     season::month_days(february, month)
 }
 
-fn limits_of(february: u32, month: u32) -> [Limit; 41]
-    ensures { λ r. ⌜ r ≡ limits february month ⌝ }
+// The limits of a block's numbers, by their places.
+fn block_limits(february: u32, month: u32) -> [Limit; 17]
+    ensures { λ r. ⌜ r ≡ take 9 (limits february month) ++ drop 33 (limits february month) ⌝ }
 {
-    let mut by_field = LIMITS;
-    by_field[1] = Limit(1, month_length(february, month));
-    by_field
+    let mut by_place = BLOCK;
+    by_place[1] = Limit(1, month_length(february, month));
+    by_place
 }
 
 fn is_outside(limit: Limit, x: u32) -> bool
@@ -98,108 +102,103 @@ fn is_outside(limit: Limit, x: u32) -> bool
     x < limit.0 || limit.1 < x
 }
 
-// Whether a field is outside its limits. Looks at all with no early exit, which is quicker where none is, and at forty by a loop of a count
-// that is known, for which the limits are no table in memory.
-fn any_outside(fields: &[u32]) -> bool
-    requires { ⌜ (40 ≤ length (now fields)) × (length (now fields) ≤ 41) ⌝ }
-    ensures { λ r. ⌜ r ≡ ltb 0 (fieldAtFault (now (fields .entry))) ⌝ }
+// A climate's lowest field outside its limits, by its number; 0 where none is. (Of a known count, in both loops: the limits are then no table in memory.)
+fn climate_fault(c: &[u32]) -> usize
+    requires { ⌜ length (now c) ≡ 24 ⌝ }
+    ensures { λ r. ⌜ r ≡ climateAtFault (now (c .entry)) ⌝ }
 {
-    let february = february_of(fields);
-    let by_field = limits_of(february, fields[0]);
-    let mut wrong = false;
+    let by_place = CLIMATE;
     let mut k: usize = 0;
-    while k < 40 {
-        let x = fields[k];
-        wrong = wrong | (x < by_field[k].0) | (by_field[k].1 < x);
-        k += 1;
-    }
-    if fields.len() <= 40 {
-        return wrong;
-    }
-    let last = fields[40];
-    wrong | (last < by_field[40].0) | (by_field[40].1 < last)
-}
-
-// The lowest field outside its limits, counted from 1; 0 where none is.
-fn lowest_outside(fields: &[u32]) -> usize
-    requires { ⌜ (40 ≤ length (now fields)) × (length (now fields) ≤ 41) ⌝ }
-    ensures { λ r. ⌜ r ≡ fieldAtFault (now (fields .entry)) ⌝ }
-{
-    let february = february_of(fields);
-    let by_field = limits_of(february, fields[0]);
-    let mut i: usize = 0;
-    while i < fields.len() {
-        let limit = by_field[i];
-        if is_outside(limit, fields[i]) {
-            return i + 1;
+    while k < 24 {
+        let limit = by_place[k];
+        if is_outside(limit, c[k]) {
+            return k + 10;
         }
-        i += 1;
+        k += 1;
     }
     0
 }
 
-// ---- the fields by name
-
-// The numbers of the twelve months, which stand behind a place.
-fn months(f: &[u32], place: usize) -> [u32; 12]
-    requires { ⌜ (place ≤ 27) × (40 ≤ length (now f)) ⌝ }
-    ensures { λ r. ⌜ r ≡ map (λ (k : ℕ). getD (now (f .entry)) (place + k) 0) (1 ∷ 2 ∷ 3 ∷ 4 ∷ 5 ∷ 6 ∷ 7 ∷ 8 ∷ 9 ∷ 10 ∷ 11 ∷ 12 ∷ []) ⌝ }
+// The number of a block's field, by its place.
+fn block_field(place: usize) -> usize
+    requires { ⌜ place ≤ 16 ⌝ }
+    ensures { λ r. ⌜ r ≡ blockField place ⌝ }
 {
-    [
-        f[place + 1],
-        f[place + 2],
-        f[place + 3],
-        f[place + 4],
-        f[place + 5],
-        f[place + 6],
-        f[place + 7],
-        f[place + 8],
-        f[place + 9],
-        f[place + 10],
-        f[place + 11],
-        f[place + 12],
-    ]
+    if place < 9 { place + 1 } else { place + 25 }
 }
 
-// A sheet's fields by name.
-pub fn season_of(f: &[u32]) -> Season
-    requires { ⌜ 40 ≤ length (now f) ⌝ }
-    ensures { λ r. ⌜ r ≡ seasonOf (now (f .entry)) ⌝ }
+// A block's lowest field outside its limits, likewise.
+fn block_fault(block: &[u32]) -> usize
+    requires { ⌜ (16 ≤ length (now block)) × (length (now block) ≤ 17) ⌝ }
+    ensures { λ r. ⌜ r ≡ blockAtFault (now (block .entry)) ⌝ }
+{
+    let by_place = block_limits(february_of(block), block[0]);
+    let mut place: usize = 0;
+    while place < 16 {
+        let limit = by_place[place];
+        if is_outside(limit, block[place]) {
+            return block_field(place);
+        }
+        place += 1;
+    }
+    if block.len() <= 16 {
+        return 0;
+    }
+    let limit = by_place[16];
+    if is_outside(limit, block[16]) { 41 } else { 0 }
+}
+
+// ---- the fields by name
+
+// The season of a climate's numbers and a block's.
+pub fn season_of(eto: [u32; 12], rain: [u32; 12], block: &[u32]) -> Season
+    requires { ⌜ 16 ≤ length (now block) ⌝ }
+    ensures { λ r. ⌜ r ≡ seasonOf (merged (eto ++ rain) (now (block .entry))) ⌝ }
 {
     Season {
-        month: f[0],
-        first: f[1],
-        initial: f[2],
-        development: f[3],
-        middle: f[4],
-        late: f[5],
-        kcini: f[6],
-        kcmid: f[7],
-        kcend: f[8],
-        eto: months(f, 8),
-        rain: months(f, 20),
-        water: f[33],
-        sowing: f[34],
-        full: f[35],
-        fraction: f[36],
-        efficiency: f[37],
-        opening: f[38],
-        turns: f[39],
-        february: february_of(f),
+        month: block[0],
+        first: block[1],
+        initial: block[2],
+        development: block[3],
+        middle: block[4],
+        late: block[5],
+        kcini: block[6],
+        kcmid: block[7],
+        kcend: block[8],
+        eto,
+        rain,
+        water: block[9],
+        sowing: block[10],
+        full: block[11],
+        fraction: block[12],
+        efficiency: block[13],
+        opening: block[14],
+        turns: block[15],
+        february: february_of(block),
     }
 }
 
 // ---- refusals 4 to 7
 
-// Forty or forty-one numbers: the first of refusals 4 to 7 that applies.
-pub fn judge(fields: &[u32]) -> Verdict
-    requires { ⌜ (40 ≤ length (now fields)) × (length (now fields) ≤ 41) ⌝ }
-    ensures { λ r. ⌜ r ≡ fieldsVerdict (now (fields .entry)) ⌝ }
+// A climate's twenty-four numbers: refusal 4.
+pub fn judge_climate(c: &[u32]) -> Verdict
+    requires { ⌜ length (now c) ≡ 24 ⌝ }
+    ensures { λ r. ⌜ r ≡ climateVerdict (now (c .entry)) ⌝ }
 {
-    if any_outside(fields) {
-        return Verdict::Refused(4, lowest_outside(fields));
+    let fault = climate_fault(c);
+    Verdict::Accepted.or_refused(0 < fault, 4, fault)
+}
+
+// A block's sixteen or seventeen numbers: the first of refusals 4 to 7 that applies. No climate is looked at.
+pub fn judge_block(block: &[u32]) -> Verdict
+    requires { ⌜ (16 ≤ length (now block)) × (length (now block) ≤ 17) ⌝ }
+    ensures { λ r. ⌜ r ≡ blockVerdict (now (block .entry)) ⌝ }
+{
+    let fault = block_fault(block);
+    if 0 < fault {
+        return Verdict::Refused(4, fault);
     }
-    let s = season_of(fields);
+    let s = season_of([0; 12], [0; 12], block);
     let long = season::LONGEST_SEASON < season::season_days(s) as usize;
     let shrinking = s.full < s.sowing;
     let above_total = season::first_total(s) < s.opening;
