@@ -45,7 +45,7 @@ unfolding ended
 ended-more least s vs at h = rw (lt-ltb at (length s) h, ended)
 
 -- No number more.
-further-zero : (s vs : List ℕ) (at : ℕ) → further 0 s (run vs at) ≡ run vs at
+pub further-zero : (s vs : List ℕ) (at : ℕ) → further 0 s (run vs at) ≡ run vs at
 unfolding further numbers after
 further-zero s vs at = go (ltb at (length s)) refl
   where
@@ -201,6 +201,10 @@ module _ (least : ℕ) {s : List ℕ} {count : ℕ} {fields : List ℕ} {at k : 
 
   pub all-read : count ≤ k → length s ≤ at → numbersBy least fields (Whole k) ≡ numbersIn least extra s
   all-read l m = ap (λ (vs : List ℕ). numbersAre vs Accepted) (take-all k fields (omega (arith, h .whole))) ∙ sym (ended-whole least s fields at m) ∙ read-all l
+
+-- Where the buffer has no room for more there are no extra numbers.
+pub no-extra : (n : ℕ) (s : List ℕ) → numbersIn n (n - n) s ≡ numbersIn n 0 s
+no-extra n s = let z : n - n ≡ 0 = omega arith in ap (λ (e : ℕ). numbersIn n e s) z
 
 -- ---- what is accepted is written there
 

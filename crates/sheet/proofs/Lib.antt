@@ -2,12 +2,13 @@ pub mod Runs
 pub mod Laws
 pub mod Further
 pub mod Verdicts
-pub mod ReadBack
 pub mod Accepted
+pub mod ReadBack
 pub mod Lengths
 pub mod Start
-pub mod Numbered
 pub mod Refusing
+pub mod Numbered
 pub mod Writing
 pub mod Answers
+pub mod OneSheet
 pub mod Claims

@@ -1,8 +1,8 @@
--- A sheet's verdict is the first of its seven lines that applies: going over the bytes meets what reading the numbers meets.
+-- The verdict of a sheet, and of a pair, is the first of its lines that applies: going over the bytes meets what reading the numbers meets.
 use Prim.Native.Nat.{ℕ, zero, suc, _+_, _-_}
 use mathlib.Core.Path.{_≡_, refl, sym, ap, _∙_}
 use mathlib.Core.Bool.{Bool, true, false, cond, _&&_}
-use mathlib.Core.List.{List, [], _∷_}
+use mathlib.Core.List.{List, [], _∷_, _++_}
 use native.Mathlib.Omega.{arith}
 use lib.Dec.{ltb, eqb}
 use lib.ListN.{length, drop}
@@ -10,16 +10,15 @@ use lib.Seq.{drop-drop}
 use Rattle.leb128.specs.declared.Number.{Number}
 use Rattle.leb128.specs.declared.Number.the-variants.{Whole, Short, Bad}
 use Rattle.leb128.specs.Forms.{decode, decodeFrom, below}
-use Rattle.season.specs.declared.Season.{Season}
 use Rattle.verdict.specs.declared.Verdict.{Verdict}
 use Rattle.verdict.specs.declared.Verdict.the-variants.{Accepted, Refused}
 use Rattle.verdict.specs.Refusals.{orRefused, firstOf}
-use Rattle.verdict.proofs.First.{first-append, first-refused}
-use Rattle.sheet.specs.Numbers.{Run, run, stop, before, numbers, numbersAre, none, after, further, ended, numbersIn, numbersRead}
-use Rattle.fields.specs.Fields.{seasonOf}
-use Rattle.fields.specs.Refusals.{fieldLines, fieldsVerdict}
-use Rattle.sheet.specs.Sheets.{onlyAccepted, judged, sheetOf}
-use Rattle.sheet.specs.Refusals.{First, offends, ends, whole, comesFirst, goesOn, byteLines, sheetLines}
+use Rattle.verdict.proofs.First.{first-append}
+use Rattle.sheet.specs.Numbers.{Run, run, stop, before, numbers, numbersAre, none, after, further, ended, numbersIn}
+use Rattle.fields.specs.Refusals.{climateLines, blockLines}
+use Rattle.sheet.specs.Sheets.{climateNumbers, thenRefused, climateOf, blockOf, sheetsOf}
+use Rattle.sheet.specs.Refusals.{First, offends, ends, whole, comesFirst, goesOn, byteLines, bytesRefused, climateSheetLines, blockSheetLines, pairLines}
+use Rattle.sheet.proofs.Verdicts.{climate-verdict, pair-verdict}
 use Rattle.sheet.proofs.Runs.{numbers-whole, numbers-short, numbers-bad}
 
 -- ---- one number
@@ -160,26 +159,33 @@ first-lines size (offends place) = refl
 first-lines size ends = refl
 first-lines size (whole at) = refl
 
-numbers-verdict : (b : List ℕ) → numbersRead b .verdict ≡ firstOf Accepted (byteLines (length b) (goesOn 1 b (comesFirst 40 0 0 b)))
+-- ---- a sheet's lines
+
+numbers-verdict : (least extra : ℕ) (b : List ℕ) → numbersIn least extra b .verdict ≡ firstOf Accepted (bytesRefused least extra b)
 unfolding numbersIn
-numbers-verdict b =
-    ended-verdict 40 b (further 1 b (numbers 40 0 b)) ∙ same-further b 1 (extraVerdict (length b)) 40
-    ∙ first-lines (length b) (goesOn 1 b (comesFirst 40 0 0 b))
+numbers-verdict least extra b =
+    ended-verdict least b (further extra b (numbers least 0 b)) ∙ same-further b extra (extraVerdict (length b)) least
+    ∙ first-lines (length b) (goesOn extra b (comesFirst least 0 0 b))
 
--- ---- all seven
+-- 1 to 3, and then those of the numbers.
+then-lines : (least extra : ℕ) (lines : List ℕ → List (Bool × ℕ × ℕ)) (b : List ℕ)
+    → thenRefused lines (numbersIn least extra b) ≡ firstOf Accepted (bytesRefused least extra b ++ lines (numbersIn least extra b .fields))
+then-lines least extra lines b =
+    ap (λ (v : Verdict). firstOf v (lines (numbersIn least extra b .fields))) (numbers-verdict least extra b)
+    ∙ sym (first-append Accepted (bytesRefused least extra b) (lines (numbersIn least extra b .fields)))
 
-accepted-verdict : (s : Season) (v : Verdict) → onlyAccepted s v .verdict ≡ v
-accepted-verdict s Accepted = refl
-accepted-verdict s (Refused number value) = refl
+pub climate-refuses-first : (climate : List ℕ) → climateOf climate .verdict ≡ firstOf Accepted (climateSheetLines climate)
+unfolding climateOf
+climate-refuses-first climate =
+    climate-verdict (climateNumbers climate .fields) (thenRefused climateLines (climateNumbers climate)) ∙ then-lines 24 0 climateLines climate
 
-pub judged-verdict : (f : List ℕ) (v : Verdict) → judged f v .verdict ≡ firstOf v (fieldLines f)
-unfolding fieldsVerdict
-judged-verdict f Accepted = accepted-verdict (seasonOf f) (fieldsVerdict f)
-judged-verdict f (Refused number value) = sym (first-refused number value (fieldLines f))
+pub block-refuses-first : (block : List ℕ) → blockOf block .verdict ≡ firstOf Accepted (blockSheetLines block)
+unfolding blockOf
+block-refuses-first block = then-lines 16 1 blockLines block
 
-pub refuses-first : (b : List ℕ) → sheetOf b .verdict ≡ firstOf Accepted (sheetLines b)
-unfolding sheetOf
-refuses-first b =
-    judged-verdict (numbersRead b .fields) (numbersRead b .verdict)
-    ∙ ap (λ (v : Verdict). firstOf v (fieldLines (numbersRead b .fields))) (numbers-verdict b)
-    ∙ sym (first-append Accepted (byteLines (length b) (goesOn 1 b (comesFirst 40 0 0 b))) (fieldLines (numbersRead b .fields)))
+-- The climate's lines, and then the block's.
+pub refuses-first : (climate block : List ℕ) → sheetsOf climate block .verdict ≡ firstOf Accepted (pairLines climate block)
+refuses-first climate block =
+    pair-verdict climate block (blockSheetLines block) (block-refuses-first block)
+    ∙ ap (λ (v : Verdict). firstOf v (blockSheetLines block)) (climate-refuses-first climate)
+    ∙ sym (first-append Accepted (climateSheetLines climate) (blockSheetLines block))

@@ -1,4 +1,5 @@
--- Document 01, 'The season sheet': forty numbers, one after another, and a forty-first where bytes follow them (document 02, T-06); refusals 1 to 3.
+-- Document 01, 'The season sheet': numbers, one after another, and where bytes follow them one more (document 02, T-06); refusals 1 to 3. Of a sheet of
+-- any count: a climate's or a block's (T-08).
 use Prim.Native.Nat.{ℕ, zero, suc, _+_}
 use mathlib.Core.List.{List, [], _∷_, _++_}
 use mathlib.Core.Bool.{true, false, cond}
@@ -59,10 +60,6 @@ ended least s (stop number place) = none least number place
 -- A least count of numbers, and where bytes follow them `extra` more.
 unfoldable pub numbersIn : ℕ → ℕ → List ℕ → Numbers
 numbersIn least extra s = ended least s (further extra s (numbers least 0 s))
-
--- The forty or forty-one numbers of a sheet, or the first of refusals 1 to 3.
-abbrev pub numbersRead : List ℕ → Numbers
-numbersRead = numbersIn 40 1
 
 -- The sheet of some numbers.
 unfoldable pub written : List ℕ → List ℕ

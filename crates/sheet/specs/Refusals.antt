@@ -1,12 +1,12 @@
--- Document 01, 'Why the controller says no': refusals 1 to 7 of a sheet's bytes, read downward. A line is a test, the number, the number returned
+-- Document 01, 'Why the controller says no': refusals 1 to 7 of the bytes of a climate sheet and a block sheet, read downward. A line is a test, the number, the number returned
 -- with it.
 use Prim.Native.Nat.{ℕ, zero, suc, _+_}
 use mathlib.Core.Bool.{Bool, true, false, cond, _&&_}
 use mathlib.Core.List.{List, [], _∷_, _++_}
 use lib.Dec.{ltb, eqb}
 use lib.ListN.{length, drop}
-use Rattle.sheet.specs.Numbers.{numbersRead}
-use Rattle.fields.specs.Refusals.{fieldLines}
+use Rattle.fields.specs.Refusals.{climateLines, blockLines}
+use Rattle.sheet.specs.Sheets.{climateNumbers, blockNumbers}
 
 -- What comes first in the bytes: a byte that no number has at its place in it; the sheet's end; or the end of the last number wanted, that is, the
 -- place after it.
@@ -32,7 +32,7 @@ goesOn extra b (offends place) = offends place
 goesOn extra b ends = ends
 goesOn extra b (whole at) = cond (ltb at (length b)) (comesFirst extra at 0 (drop at b)) (whole at)
 
--- 1: the sheet ends before its fortieth number is whole, or within a forty-first; with its length.
+-- 1: the sheet ends before the last number wanted is whole, or within one more; with its length.
 abbrev pub endsLine : ℕ → First → Bool × ℕ × ℕ
 endsLine size (offends place) = (false, 1, 0)
 endsLine size ends = (true, 1, size)
@@ -54,6 +54,17 @@ extraLine size (whole at) = (ltb at size, 3, at)
 abbrev pub byteLines : ℕ → First → List (Bool × ℕ × ℕ)
 byteLines size first = endsLine size first ∷ offenceLine first ∷ extraLine size first ∷ []
 
--- All seven; 4 to 7 are of the numbers.
-abbrev pub sheetLines : List ℕ → List (Bool × ℕ × ℕ)
-sheetLines b = byteLines (length b) (goesOn 1 b (comesFirst 40 0 0 b)) ++ fieldLines (numbersRead b .fields)
+-- 1 to 3 of a sheet that has a least count of numbers, or `extra` more.
+abbrev pub bytesRefused : ℕ → ℕ → List ℕ → List (Bool × ℕ × ℕ)
+bytesRefused least extra s = byteLines (length s) (goesOn extra s (comesFirst least 0 0 s))
+
+-- A climate sheet: 1 to 3, and 4 of its numbers. A block sheet: 1 to 3, and 4 to 7 of its numbers.
+abbrev pub climateSheetLines : List ℕ → List (Bool × ℕ × ℕ)
+climateSheetLines climate = bytesRefused 24 0 climate ++ climateLines (climateNumbers climate .fields)
+
+abbrev pub blockSheetLines : List ℕ → List (Bool × ℕ × ℕ)
+blockSheetLines block = bytesRefused 16 1 block ++ blockLines (blockNumbers block .fields)
+
+-- Both: the climate's first.
+abbrev pub pairLines : List ℕ → List ℕ → List (Bool × ℕ × ℕ)
+pairLines climate block = climateSheetLines climate ++ blockSheetLines block

@@ -1,19 +1,29 @@
-// The season sheet (document 01): forty numbers one after another, or forty-one (document 02, T-06), and refusals 1 to 7; and the writer (T-02).
+// The two sheets of a season (document 02, T-08), read by document 01's rules: a climate sheet has twenty-four numbers one after another, a block
+// sheet sixteen, or seventeen with the days of February (T-06); refusals 1 to 7. And both writers (T-02).
 use leb128::Number;
 use season::Season;
 use verdict::Verdict;
 ghost use Prim.Native.Nat.{_+_, _-_, _≤_};
 ghost use mathlib.Core.Path.{_≡_};
-ghost use lib.ListN.{length};
+ghost use mathlib.Core.List.{[], _++_};
+ghost use lib.ListN.{length, take, drop};
 ghost use lib.Seq.{sets};
 ghost use Rattle.leb128.specs.Groups.{encode};
-ghost use Rattle.verdict.specs.declared.Verdict.the-variants.{Accepted};
+ghost use Rattle.fields.specs.Fields.{seasonOf, merged};
+ghost use Rattle.fields.specs.Refusals.{climateVerdict, blockVerdict};
 ghost use Rattle.sheet.specs.Numbers.{numbersIn, written};
 ghost use Rattle.sheet.specs.Reading.{numbersBy, countOf};
-ghost use Rattle.sheet.specs.Sheets.{refusal, judged, sheetOf};
-ghost use Rattle.sheet.specs.Writing.{fieldsWritten, sheetWritten};
+ghost use Rattle.sheet.specs.Sheets.{refusal, onlyAccepted, noClimate, climateBy, climateOf, blockOf, blockWith, sheetsOf, climateEnd};
+ghost use Rattle.sheet.specs.Writing.{sheetFields, bytesWritten, climateWritten, fieldsWritten, blockWritten};
 
-// A sheet's season; where the sheet is refused it is all 0 but for February's days, which are 28.
+// A climate sheet's numbers, ETo and dependable rain by month; all 0 where the sheet is refused.
+pub struct Climate {
+    pub eto: [u32; 12],
+    pub rain: [u32; 12],
+    pub verdict: Verdict,
+}
+
+// The season of a climate sheet and a block sheet; where one is refused it is all 0 but for February's days, which are 28.
 pub struct Sheet {
     pub season: Season,
     pub verdict: Verdict,
@@ -31,13 +41,38 @@ enum Reading {
     Refused(u32, usize),
 }
 
-// Bytes that every sheet fits in.
-pub const MOST_BYTES: usize = 87;
+// Bytes that every climate sheet fits in, and every block sheet.
+pub const MOST_CLIMATE: usize = 60;
+
+pub const MOST_BLOCK: usize = 27;
 
 // ---- refusals 1 to 3
 
-// Puts the numbers of a sheet into a lent buffer, as many as it has or the least count where the sheet ends there, and says how many; or gives the
-// first of refusals 1 to 3 that applies. One loop for all of them: a second call of what reads a number would keep it from being inlined.
+// Puts the numbers of a sheet into a lent buffer, as many as that has; or gives the first of refusals 1 to 3 that applies.
+fn read_all(sheet: &[u8], fields: &mut [u32]) -> Reading
+    ensures { λ r. ⌜ numbersBy (length (now (fields .entry))) (now (fields .exit)) r ≡ numbersIn (length (now (fields .entry))) 0 (now (sheet .entry)) ⌝ }
+{
+    let mut at: usize = 0;
+    let mut k: usize = 0;
+    while k < fields.len() {
+        match leb128::read_at(sheet, at) {
+            Number::Whole(value, length) => {
+                fields[k] = value;
+                at += length;
+            }
+            Number::Short => return Reading::Refused(1, sheet.len()),
+            Number::Bad(offset) => return Reading::Refused(2, at + offset),
+        }
+        k += 1;
+    }
+    if at < sheet.len() {
+        return Reading::Refused(3, at);
+    }
+    Reading::Whole(k)
+}
+
+// The same, but that the sheet may end after a least count of numbers; and how many it has. One loop for all of them. (It and `read_all` read a number by
+// two functions: a second call of either would keep it from being inlined.)
 fn read_numbers(sheet: &[u8], least: usize, fields: &mut [u32]) -> Reading
     requires { ⌜ least ≤ length (now fields) ⌝ }
     ensures { λ r. ⌜ (numbersBy least (now (fields .exit)) r ≡ numbersIn least (length (now (fields .entry)) - least) (now (sheet .entry)))
@@ -46,7 +81,7 @@ fn read_numbers(sheet: &[u8], least: usize, fields: &mut [u32]) -> Reading
     let mut at: usize = 0;
     let mut k: usize = 0;
     while k < fields.len() {
-        match leb128::read_at(sheet, at) {
+        match leb128::read(&sheet[at..]) {
             Number::Whole(value, length) => {
                 fields[k] = value;
                 at += length;
@@ -69,41 +104,133 @@ fn read_numbers(sheet: &[u8], least: usize, fields: &mut [u32]) -> Reading
     Reading::Whole(k)
 }
 
-// ---- the sheet
+// ---- the climate sheet
 
-// A refused sheet.
-fn refused(number: u32, value: usize) -> Sheet
-    ensures { λ r. ⌜ r ≡ refusal number value ⌝ }
+// A refused climate sheet.
+fn no_climate(number: u32, value: usize) -> Climate
+    ensures { λ r. ⌜ r ≡ noClimate number value ⌝ }
 {
-    let none = [0u32; 40];
-    Sheet {
-        season: fields::season_of(&none),
+    Climate {
+        eto: [0; 12],
+        rain: [0; 12],
         verdict: Verdict::Refused(number, value),
     }
 }
 
-// The season of forty or forty-one numbers, or the first of refusals 4 to 7 that applies.
-fn judge(fields: &[u32]) -> Sheet
-    requires { ⌜ (40 ≤ length (now fields)) × (length (now fields) ≤ 41) ⌝ }
-    ensures { λ r. ⌜ r ≡ judged (now (fields .entry)) Accepted ⌝ }
+// Twelve numbers from a place on.
+fn months(c: &[u32], at: usize) -> [u32; 12]
+    requires { ⌜ at + 12 ≤ length (now c) ⌝ }
+    ensures { λ r. ⌜ r ≡ take 12 (drop at (now (c .entry))) ⌝ }
 {
-    match fields::judge(fields) {
-        Verdict::Refused(number, value) => refused(number, value),
-        Verdict::Accepted => Sheet {
-            season: fields::season_of(fields),
+    [
+        c[at],
+        c[at + 1],
+        c[at + 2],
+        c[at + 3],
+        c[at + 4],
+        c[at + 5],
+        c[at + 6],
+        c[at + 7],
+        c[at + 8],
+        c[at + 9],
+        c[at + 10],
+        c[at + 11],
+    ]
+}
+
+// The climate of twenty-four numbers, or refusal 4.
+fn judge_climate(c: &[u32]) -> Climate
+    requires { ⌜ length (now c) ≡ 24 ⌝ }
+    ensures { λ r. ⌜ r ≡ climateBy (now (c .entry)) (climateVerdict (now (c .entry))) ⌝ }
+{
+    match fields::judge_climate(c) {
+        Verdict::Refused(number, value) => no_climate(number, value),
+        Verdict::Accepted => Climate {
+            eto: months(c, 0),
+            rain: months(c, 12),
             verdict: Verdict::Accepted,
         },
     }
 }
 
-// The season of a sheet, or the first of refusals 1 to 7 that applies.
-pub fn read(sheet: &[u8]) -> Sheet
-    ensures { λ r. ⌜ r ≡ sheetOf (now (sheet .entry)) ⌝ }
+// A climate sheet: its numbers, or the first of refusals 1 to 4 that applies.
+pub fn read_climate(sheet: &[u8]) -> Climate
+    ensures { λ r. ⌜ r ≡ climateOf (now (sheet .entry)) ⌝ }
 {
-    let mut fields = [0u32; 41];
-    match read_numbers(sheet, 40, &mut fields) {
+    let mut c = [0u32; 24];
+    match read_all(sheet, &mut c) {
+        Reading::Refused(number, value) => no_climate(number, value),
+        Reading::Whole(_) => judge_climate(&c),
+    }
+}
+
+// ---- the block sheet
+
+// A refused pair of sheets.
+fn refused(number: u32, value: usize) -> Sheet
+    ensures { λ r. ⌜ r ≡ refusal number value ⌝ }
+{
+    let none = [0u32; 16];
+    Sheet {
+        season: fields::season_of([0; 12], [0; 12], &none),
+        verdict: Verdict::Refused(number, value),
+    }
+}
+
+// The season of a climate's numbers and a block's, or the first of refusals 4 to 7 that applies to the block.
+fn judge_block(eto: [u32; 12], rain: [u32; 12], block: &[u32]) -> Sheet
+    requires { ⌜ (16 ≤ length (now block)) × (length (now block) ≤ 17) ⌝ }
+    ensures { λ r. ⌜ r ≡ onlyAccepted (seasonOf (merged (eto ++ rain) (now (block .entry)))) (blockVerdict (now (block .entry))) ⌝ }
+{
+    match fields::judge_block(block) {
+        Verdict::Refused(number, value) => refused(number, value),
+        Verdict::Accepted => Sheet {
+            season: fields::season_of(eto, rain, block),
+            verdict: Verdict::Accepted,
+        },
+    }
+}
+
+// The season of a climate's numbers and a block sheet, or the first of refusals 1 to 7 that applies to the block sheet.
+fn read_season(eto: [u32; 12], rain: [u32; 12], sheet: &[u8]) -> Sheet
+    ensures { λ r. ⌜ r ≡ onlyAccepted (seasonOf (merged (eto ++ rain) (blockOf (now (sheet .entry)) .fields))) (blockOf (now (sheet .entry)) .verdict) ⌝ }
+{
+    let mut block = [0u32; 17];
+    match read_numbers(sheet, 16, &mut block) {
         Reading::Refused(number, value) => refused(number, value),
-        Reading::Whole(count) => judge(&fields[..count]),
+        Reading::Whole(count) => judge_block(eto, rain, &block[..count]),
+    }
+}
+
+// The season of a climate that was read and a block sheet; or the climate's refusal, or the first of refusals 1 to 7 that applies to the block.
+pub fn read_block(climate: Climate, sheet: &[u8]) -> Sheet
+    ensures { λ r. ⌜ r ≡ blockWith climate (now (sheet .entry)) ⌝ }
+{
+    let eto = climate.eto;
+    let rain = climate.rain;
+    let verdict = climate.verdict;
+    match verdict {
+        Verdict::Refused(number, value) => refused(number, value),
+        Verdict::Accepted => read_season(eto, rain, sheet),
+    }
+}
+
+// The season of a climate sheet and a block sheet, or the first of refusals 1 to 7 that applies.
+pub fn read(climate: &[u8], block: &[u8]) -> Sheet
+    ensures { λ r. ⌜ r ≡ sheetsOf (now (climate .entry)) (now (block .entry)) ⌝ }
+{
+    read_block(read_climate(climate), block)
+}
+
+// Where the climate sheet ends in an input that holds a block sheet behind it: behind its twenty-fourth number, or at the input's end where those
+// are not whole.
+pub fn climate_end(input: &[u8]) -> usize
+    ensures { λ r. ⌜ r ≡ climateEnd (now (input .entry)) ⌝ }
+{
+    let mut numbers = [0u32; 24];
+    match read_all(input, &mut numbers) {
+        Reading::Whole(_) => input.len(),
+        Reading::Refused(number, place) => if number == 3 { place } else { input.len() },
     }
 }
 
@@ -140,21 +267,17 @@ fn put_numbers(bytes: &mut [u8], numbers: &[u32]) -> usize
     at
 }
 
-// The sheet of forty or forty-one numbers, from the start of a lent buffer; bytes beyond it stay. Refusals 4 to 7, and 15, before a byte is stored
-// there: a buffer that every sheet fits in is written in place, and for any other the bytes are made in an array first.
-fn write_fields(fields: &[u32], sheet: &mut [u8]) -> Written
-    requires { ⌜ (40 ≤ length (now fields)) × (length (now fields) ≤ 41) ⌝ }
-    ensures { λ r. ⌜ (r, now (sheet .exit)) ≡ fieldsWritten (now (fields .entry)) (now (sheet .entry)) ⌝ }
+// The bytes of some numbers, from the start of a lent buffer; what stands beyond them stays. Refusal 15 before a byte is stored there: a buffer
+// that they always fit in is written in place, and for any other the bytes are made in an array first.
+fn write_numbers(numbers: &[u32], most: usize, sheet: &mut [u8]) -> Written
+    requires { ⌜ (length (written (now numbers)) ≤ most) × (most ≤ 60) ⌝ }
+    ensures { λ r. ⌜ (r, now (sheet .exit)) ≡ bytesWritten [] (written (now (numbers .entry))) (now (sheet .entry)) ⌝ }
 {
-    match fields::judge(fields) {
-        Verdict::Refused(number, value) => return Written::Refused(number, value),
-        Verdict::Accepted => {}
+    if most <= sheet.len() {
+        return Written::Made(put_numbers(sheet, numbers));
     }
-    if MOST_BYTES <= sheet.len() {
-        return Written::Made(put_numbers(sheet, fields));
-    }
-    let mut made = [0u8; MOST_BYTES];
-    let count = put_numbers(&mut made, fields);
+    let mut made = [0u8; MOST_CLIMATE];
+    let count = put_numbers(&mut made, numbers);
     if sheet.len() < count {
         return Written::Refused(15, 0);
     }
@@ -162,12 +285,38 @@ fn write_fields(fields: &[u32], sheet: &mut [u8]) -> Written
     Written::Made(count)
 }
 
-// The sheet of the tablet's forty-one numbers. A February of 28 days is left out.
-pub fn write(fields: [u32; 41], sheet: &mut [u8]) -> Written
-    ensures { λ r. ⌜ (r, now (sheet .exit)) ≡ sheetWritten fields (now (sheet .entry)) ⌝ }
+// The climate sheet of twenty-four numbers. Refusals 4 and 15.
+pub fn write_climate(fields: [u32; 24], sheet: &mut [u8]) -> Written
+    ensures { λ r. ⌜ (r, now (sheet .exit)) ≡ climateWritten fields (now (sheet .entry)) ⌝ }
 {
-    if fields[40] == 28 {
-        return write_fields(&fields[..40], sheet);
+    match fields::judge_climate(&fields) {
+        Verdict::Refused(number, field) => Written::Refused(number, field),
+        Verdict::Accepted => write_numbers(&fields, MOST_CLIMATE, sheet),
     }
-    write_fields(&fields, sheet)
+}
+
+// The block sheet of sixteen or seventeen numbers. Refusals 4 to 7, and 15.
+fn write_fields(fields: &[u32], sheet: &mut [u8]) -> Written
+    requires { ⌜ (16 ≤ length (now fields)) × (length (now fields) ≤ 17) ⌝ }
+    ensures { λ r. ⌜ (r, now (sheet .exit)) ≡ fieldsWritten (now (fields .entry)) (now (sheet .entry)) ⌝ }
+{
+    match fields::judge_block(fields) {
+        Verdict::Refused(number, value) => Written::Refused(number, value),
+        Verdict::Accepted => write_numbers(fields, MOST_BLOCK, sheet),
+    }
+}
+
+// How many of the tablet's seventeen numbers a block sheet has: a February of 28 days is left out.
+fn sheet_count(fields: [u32; 17]) -> usize
+    ensures { λ r. ⌜ r ≡ length (sheetFields fields) ⌝ }
+{
+    if fields[16] == 28 { 16 } else { 17 }
+}
+
+// The block sheet of the tablet's seventeen numbers.
+pub fn write_block(fields: [u32; 17], sheet: &mut [u8]) -> Written
+    ensures { λ r. ⌜ (r, now (sheet .exit)) ≡ blockWritten fields (now (sheet .entry)) ⌝ }
+{
+    let count = sheet_count(fields);
+    write_fields(&fields[..count], sheet)
 }
