@@ -1,4 +1,4 @@
--- Demand 3 on bytes: an accepted sheet's calls are the journal's and the planner's own.
+-- Demand 3 on bytes: an accepted pair's calls are the journal's and the planner's own.
 use mathlib.Core.Path.{_≡_, refl, sym, _∙_, ap, ap₂, subst⁻¹}
 use mathlib.Core.Logic.{_⊎_, inl, inr}
 use mathlib.Core.List.{List, [], _∷_, _++_}
@@ -12,7 +12,7 @@ use Rattle.season.specs.Sheet.{seasonDays}
 use Rattle.season.specs.Day.{rootOn, totalOn}
 use Rattle.verdict.specs.declared.Verdict.the-variants as verdict
 use Rattle.verdict.specs.Refusals.{orRefused}
-use Rattle.sheet.specs.Sheets.{sheetOf}
+use Rattle.sheet.specs.Sheets.{sheetsOf}
 use Rattle.sheet.proofs.Accepted.{accepted-season}
 use Rattle.journal.specs.declared.Ledger.{Ledger}
 use Rattle.journal.specs.declared.Opened.{Opened}
@@ -43,7 +43,7 @@ use Rattle.controller.specs.declared.Probed.the-variants as probed
 use Rattle.controller.specs.Calls.{plannedOn, probedOn, sheetOpened, sheetLost, sheetPlanned, sheetProbed}
 use Rattle.controller.specs.Refusals.{planOf}
 use Rattle.controller.specs.Demands.{calls, numbered, PlanKept, Demand3}
-use Rattle.controller.proofs.Sheets.{sheet-accepted}
+use Rattle.controller.proofs.Sheets.{sheets-accepted}
 
 -- ---- a plan from a ledger, in a buffer that is long enough
 
@@ -100,60 +100,60 @@ module _ (s : Season) (l : Ledger) (out : List ℕ) (room : daysLeft s (l .day) 
         );
       }
 
--- ---- an accepted sheet
+-- ---- an accepted pair
 
-module _ (sheet : List ℕ) (v : sheetOf sheet .verdict ≡ verdict.Accepted) where
+module _ (climate block : List ℕ) (v : sheetsOf climate block .verdict ≡ verdict.Accepted) where
   abbrev s : Season
-  s = sheetOf sheet .season
+  s = sheetsOf climate block .season
 
   -- Its calls are the journal's.
-  same-opened : (area : List ℕ) → sheetOpened sheet area ≡ opened s area
-  same-opened area = sheet-accepted (λ number value. openedWith (found.Refused number value) []) (λ t. opened t area) sheet (sheetOf sheet) refl v
+  same-opened : (area : List ℕ) → sheetOpened climate block area ≡ opened s area
+  same-opened area = sheets-accepted (λ number value. openedWith (found.Refused number value) []) (λ t. opened t area) climate block (sheetsOf climate block) refl v
 
-  same-calls : calls sheet ≡ journal s
+  same-calls : calls climate block ≡ journal s
   same-calls = λ i. record {
-    records = λ area e. sheet-accepted (λ number value. recordedWith (verdict.Refused number value) noStores) (λ t. recorded t area e) sheet (sheetOf sheet) refl v i;
+    records = λ area e. sheets-accepted (λ number value. recordedWith (verdict.Refused number value) noStores) (λ t. recorded t area e) climate block (sheetsOf climate block) refl v i;
     opened = λ area. same-opened area i;
   }
 
-  pub opens : (area : List ℕ) → sheetOpened sheet area .opening ≡ opening s area
+  pub opens : (area : List ℕ) → sheetOpened climate block area .opening ≡ opening s area
   opens area = ap (λ (r : Opened). r .opening) (same-opened area) ∙ opened-opening s area
 
   -- On a clean journal with an open day the plan is the planner's, from the ledger.
   plans-clean : (area out : List ℕ) (l : Ledger) → opening s area ≡ found.Clean l → l .day ≤ seasonDays s
-      → sheetPlanned sheet area out ≡ answer s (l .day) (l .depletion) (waiting l) out
+      → sheetPlanned climate block area out ≡ answer s (l .day) (l .depletion) (waiting l) out
   unfolding plannedOn
   plans-clean area out l o h =
-      sheet-accepted (λ number value. (Refused number value, out)) (λ t. plannedOn t out (opening t area)) sheet (sheetOf sheet) refl v
+      sheets-accepted (λ number value. (Refused number value, out)) (λ t. plannedOn t out (opening t area)) climate block (sheetsOf climate block) refl v
       ∙ rw (o, plannedOn, le-ltb (seasonDays s) (l .day) h)
 
   pub plan-right : (area out : List ℕ) (l : Ledger) → opening s area ≡ found.Clean l → l .day ≤ seasonDays s → daysLeft s (l .day) ≤ length out
-      → PlanKept s l out (sheetPlanned sheet area out)
+      → PlanKept s l out (sheetPlanned climate block area out)
   plan-right area out l o day room = subst⁻¹ (PlanKept s l out) (plans-clean area out l o day) (plan-kept s l out room)
 
   -- On a clean journal the losses are those of the ledger.
-  losses-clean : (area : List ℕ) (ky : ℕ) (l : Ledger) → opening s area ≡ found.Clean l → 1 ≤ ky → ky ≤ 200 → sheetLost sheet area ky ≡ Parts (lossesOf ky l)
+  losses-clean : (area : List ℕ) (ky : ℕ) (l : Ledger) → opening s area ≡ found.Clean l → 1 ≤ ky → ky ≤ 200 → sheetLost climate block area ky ≡ Parts (lossesOf ky l)
   unfolding lost lostOn orRefused
   losses-clean area ky l o low high =
-      sheet-accepted losing.Refused (λ t. lost t area ky) sheet (sheetOf sheet) refl v
+      sheets-accepted losing.Refused (λ t. lost t area ky) climate block (sheetsOf climate block) refl v
       ∙ rw (o, lostOn, le-ltb ky 1 low, le-ltb 200 ky high)
 
   -- On a clean journal with an open day a content is answered beside the ledger's depletion.
   probes-clean : (area : List ℕ) (shallow deep : Probe) (f w : ℕ) (l : Ledger) → opening s area ≡ found.Clean l → 1 ≤ f → f ≤ 6000
       → readingOf shallow deep ≡ Content w → l .day ≤ seasonDays s
-      → sheetProbed sheet area shallow deep f ≡ Depletions (l .depletion) (measured f w (rootOn s (l .day)) (totalOn s (l .day)))
+      → sheetProbed climate block area shallow deep f ≡ Depletions (l .depletion) (measured f w (rootOn s (l .day)) (totalOn s (l .day)))
   unfolding probedOn orRefused
   probes-clean area shallow deep f w l o low high r day =
-      sheet-accepted probed.Refused (λ t. probedOn t (readingOf shallow deep) f (opening t area)) sheet (sheetOf sheet) refl v
+      sheets-accepted probed.Refused (λ t. probedOn t (readingOf shallow deep) f (opening t area)) climate block (sheetsOf climate block) refl v
       ∙ rw (o, r, probedOn, le-ltb (seasonDays s) (l .day) day, le-ltb f 1 low, le-ltb 6000 f high)
 
-  pub demand-3 : (size : ℕ) → size ≤ 8192 → (steps : List Step) (out : List ℕ) → Demand3 sheet size steps out
+  pub demand-3 : (size : ℕ) → size ≤ 8192 → (steps : List Step) (out : List ℕ) → Demand3 climate block size steps out
   unfolding foundIn
   demand-3 size h steps out =
       let k = bookAfter s size emptyBook steps in
-      let kept : Kept (calls sheet) s size steps
-      = subst⁻¹ (λ (d : Device). Kept d s size steps) same-calls (journals.claims .history-kept s (accepted-season sheet v) size h steps) in
-      let area = areaAfter (calls sheet) (blankArea size) steps in
+      let kept : Kept (calls climate block) s size steps
+      = subst⁻¹ (λ (d : Device). Kept d s size steps) same-calls (journals.claims .history-kept s (accepted-season climate block v) size h steps) in
+      let area = areaAfter (calls climate block) (blankArea size) steps in
       let clean : k .loose ≡ [] → opening s area ≡ found.Clean (ledgerOf s k)
       = λ none. sym (opens area) ∙ kept .opens-as ∙ ap (foundIn (ledgerOf s k)) none in
       record {

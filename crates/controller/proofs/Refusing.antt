@@ -17,8 +17,8 @@ use Rattle.verdict.specs.declared.Verdict.the-variants.{Accepted, Refused}
 use Rattle.verdict.specs.Refusals.{orRefused, firstOf, verdictOf}
 use Rattle.verdict.proofs.First.{Refusal, Lines, first-append, first-refused, first-holds, first-fails, first-refusal, refused-accepted}
 use Rattle.verdict.proofs.Claims as verdicts
-use Rattle.sheet.specs.Sheets.{sheetOf}
-use Rattle.sheet.specs.Refusals.{sheetLines}
+use Rattle.sheet.specs.Sheets.{sheetsOf}
+use Rattle.sheet.specs.Refusals.{pairLines}
 use Rattle.sheet.proofs.Claims as sheets
 use Rattle.journal.specs.declared.Entry.{Entry}
 use Rattle.journal.specs.declared.Ledger.{Ledger}
@@ -52,26 +52,28 @@ use Rattle.probes.specs.declared.Reading.{Reading}
 use Rattle.probes.specs.Contents.{readingOf, contentIn}
 use Rattle.probes.specs.Depletion.{measured}
 use Rattle.probes.proofs.Claims as probings
-use Rattle.controller.specs.Calls.{onSheet, plannedOn, capacityOutside, probeRefusals, probedUnless, probedOn, probedNumbers}
+use Rattle.controller.specs.Calls.{onSheets, plannedOn, capacityOutside, probeRefusals, probedUnless, probedOn, probedNumbers}
 use Rattle.controller.specs.declared.Probed.the-variants.{Depletions}
 use Rattle.controller.specs.Refusals.{Line, onLines, damaged, tornLine, ledgerIn, openLines, lossLines, entryLines, lost, planOf, roomLines, planLines, probeLines, tableLines}
-use Rattle.controller.proofs.Sheets.{on-sheet}
+use Rattle.controller.proofs.Sheets.{on-sheets}
 
--- Refusals 1 to 7 come first, for every call; the call's own go on from the sheet's verdict.
-on-lines : (sheet : List ℕ) (lines : Season → List Line) → firstOf Accepted (onLines sheet lines) ≡ firstOf (sheetOf sheet .verdict) (lines (sheetOf sheet .season))
-on-lines sheet lines =
-    first-append Accepted (sheetLines sheet) (lines (sheetOf sheet .season))
-    ∙ ap (λ (v : Verdict). firstOf v (lines (sheetOf sheet .season))) (sym (sheets.claims .refuses-first sheet))
+-- Refusals 1 to 7 come first, for every call; the call's own go on from the sheets' verdict.
+module _ (climate block : List ℕ) where
+  on-lines : (lines : Season → List Line)
+      → firstOf Accepted (onLines climate block lines) ≡ firstOf (sheetsOf climate block .verdict) (lines (sheetsOf climate block .season))
+  on-lines lines =
+      first-append Accepted (pairLines climate block) (lines (sheetsOf climate block .season))
+      ∙ ap (λ (v : Verdict). firstOf v (lines (sheetsOf climate block .season))) (sym (sheets.claims .refuses-first climate block))
 
-pub sheet-verdict : {A : Type 0} (verdictIn : A → Verdict) (refuse : ℕ → ℕ → A) (reply : Season → A) (sheet : List ℕ) (lines : Season → List Line)
-    → ((number value : ℕ) → 1 ≤ number → verdictIn (refuse number value) ≡ Refused number value)
-    → ((s : Season) → AcceptedSeason s → verdictIn (reply s) ≡ firstOf Accepted (lines s))
-    → verdictIn (onSheet refuse reply sheet) ≡ firstOf Accepted (onLines sheet lines)
-sheet-verdict verdictIn refuse reply sheet lines no-sheet of-season =
-    on-sheet refuse reply sheet (λ a. verdictIn a ≡ firstOf Accepted (onLines sheet lines))
-    (λ number value e. no-sheet number value (sheets.claims .refused-number sheet number value e .0)
-    ∙ sym (on-lines sheet lines ∙ rw e (first-refused number value (lines (sheetOf sheet .season)))))
-    (λ s e q o. of-season s o ∙ sym (on-lines sheet lines ∙ rw (e, q)))
+  pub sheets-verdict : {A : Type 0} (verdictIn : A → Verdict) (refuse : ℕ → ℕ → A) (reply : Season → A) (lines : Season → List Line)
+      → ((number value : ℕ) → 1 ≤ number → verdictIn (refuse number value) ≡ Refused number value)
+      → ((s : Season) → AcceptedSeason s → verdictIn (reply s) ≡ firstOf Accepted (lines s))
+      → verdictIn (onSheets refuse reply climate block) ≡ firstOf Accepted (onLines climate block lines)
+  sheets-verdict verdictIn refuse reply lines no-sheets of-season =
+      on-sheets refuse reply climate block (λ a. verdictIn a ≡ firstOf Accepted (onLines climate block lines))
+      (λ number value e. no-sheets number value (sheets.claims .refused-number climate block number value e .0)
+      ∙ sym (on-lines lines ∙ rw e (first-refused number value (lines (sheetsOf climate block .season)))))
+      (λ s e q o. of-season s o ∙ sym (on-lines lines ∙ rw (e, q)))
 
 -- A refusal's number and value are the verdict of an answer that begins with them.
 pub numbers-refused : (number value : ℕ) → 1 ≤ number → verdictOf (number ∷ value ∷ []) ≡ Refused number value

@@ -1,5 +1,5 @@
--- The calls on bytes. Refusals 1 to 7 concern every call that is given a sheet: it gives the first of them that applies, and else what it answers
--- of the sheet's season. The ninth call, write, is given numbers: `sheetWritten` of sheet's specs/Writing.antt.
+-- The calls on bytes. Refusals 1 to 7 concern every call that is given a climate sheet and a block sheet: it gives the first of them that applies, and
+-- else what it answers of their season. The two writers are given numbers: `climateWritten` and `blockWritten` of sheet's specs/Writing.antt.
 use Prim.Native.Nat.{ℕ}
 use mathlib.Core.Bool.{Bool, cond, _||_}
 use mathlib.Core.List.{List, [], _∷_}
@@ -10,7 +10,7 @@ use Rattle.season.specs.Day.{rootOn, totalOn}
 use Rattle.verdict.specs.declared.Verdict.{Verdict}
 use Rattle.verdict.specs.declared.Verdict.the-variants.{Accepted, Refused}
 use Rattle.verdict.specs.Refusals.{firstOf}
-use Rattle.sheet.specs.Sheets.{sheetOf}
+use Rattle.sheet.specs.Sheets.{sheetsOf}
 use Rattle.journal.specs.declared.Entry.{Entry}
 use Rattle.journal.specs.declared.Opening.{Opening}
 use Rattle.journal.specs.declared.Opening.the-variants as found
@@ -40,20 +40,20 @@ abbrev pub byVerdict : {A : Type 0} → (ℕ → ℕ → A) → (Season → A) �
 byVerdict refuse reply s Accepted = reply s
 byVerdict refuse reply s (Refused number value) = refuse number value
 
-unfoldable pub onSheet : {A : Type 0} → (ℕ → ℕ → A) → (Season → A) → List ℕ → A
-onSheet refuse reply sheet = byVerdict refuse reply (sheetOf sheet .season) (sheetOf sheet .verdict)
+unfoldable pub onSheets : {A : Type 0} → (ℕ → ℕ → A) → (Season → A) → List ℕ → List ℕ → A
+onSheets refuse reply climate block = byVerdict refuse reply (sheetsOf climate block .season) (sheetsOf climate block .verdict)
 
 -- Open. A refusal has no stores.
-abbrev pub sheetOpened : List ℕ → List ℕ → Opened
-sheetOpened sheet area = onSheet (λ number value. openedWith (found.Refused number value) []) (λ s. opened s area) sheet
+abbrev pub sheetOpened : List ℕ → List ℕ → List ℕ → Opened
+sheetOpened climate block area = onSheets (λ number value. openedWith (found.Refused number value) []) (λ s. opened s area) climate block
 
 -- Rain, irrigation and close, likewise.
-abbrev pub sheetRecorded : List ℕ → List ℕ → Entry → Recorded
-sheetRecorded sheet area e = onSheet (λ number value. recordedWith (Refused number value) noStores) (λ s. recorded s area e) sheet
+abbrev pub sheetRecorded : List ℕ → List ℕ → List ℕ → Entry → Recorded
+sheetRecorded climate block area e = onSheets (λ number value. recordedWith (Refused number value) noStores) (λ s. recorded s area e) climate block
 
 -- Loss, by a yield response factor.
-abbrev pub sheetLost : List ℕ → List ℕ → ℕ → Lost
-sheetLost sheet area ky = onSheet losing.Refused (λ s. lost s area ky) sheet
+abbrev pub sheetLost : List ℕ → List ℕ → List ℕ → ℕ → Lost
+sheetLost climate block area ky = onSheets losing.Refused (λ s. lost s area ky) climate block
 
 -- Plan, on a journal that opens so, with the lent buffer: 8 to 10, then 11, then 15 and 16. It runs from the ledger's open day, starting at its depletion.
 unfoldable pub plannedOn : Season → List ℕ → Opening → Planned × List ℕ
@@ -62,8 +62,8 @@ plannedOn s out (found.Clean l) =
 plannedOn s out (found.Torn l place) = (planned.Refused 10 place, out)
 plannedOn s out (found.Refused number place) = (planned.Refused number place, out)
 
-abbrev pub sheetPlanned : List ℕ → List ℕ → List ℕ → Planned × List ℕ
-sheetPlanned sheet area out = onSheet (λ number value. (planned.Refused number value, out)) (λ s. plannedOn s out (opening s area)) sheet
+abbrev pub sheetPlanned : List ℕ → List ℕ → List ℕ → List ℕ → Planned × List ℕ
+sheetPlanned climate block area out = onSheets (λ number value. (planned.Refused number value, out)) (λ s. plannedOn s out (opening s area)) climate block
 
 -- Probe (document 02, T-07), by the field capacity f, 1 to 6,000 ten-thousandths.
 abbrev pub capacityOutside : ℕ → Bool
@@ -90,8 +90,8 @@ probedOn s r f (found.Clean l) = probedBy s r f (l .day) (l .depletion)
 probedOn s r f (found.Torn l place) = probed.Refused 10 place
 probedOn s r f (found.Refused number place) = probed.Refused number place
 
-abbrev pub sheetProbed : List ℕ → List ℕ → Probe → Probe → ℕ → Probed
-sheetProbed sheet area shallow deep f = onSheet probed.Refused (λ s. probedOn s (readingOf shallow deep) f (opening s area)) sheet
+abbrev pub sheetProbed : List ℕ → List ℕ → List ℕ → Probe → Probe → ℕ → Probed
+sheetProbed climate block area shallow deep f = onSheets probed.Refused (λ s. probedOn s (readingOf shallow deep) f (opening s area)) climate block
 
 -- The numbers of its answer: 0 and 0, the ledger's depletion, the measured one; or the refusal's.
 abbrev pub probedNumbers : Probed → List ℕ
@@ -99,5 +99,5 @@ probedNumbers (Depletions ledger probes) = 0 ∷ 0 ∷ ledger ∷ probes ∷ []
 probedNumbers (probed.Refused number value) = number ∷ value ∷ []
 
 -- Table, with the lent buffer.
-abbrev pub sheetTabled : List ℕ → List ℕ → Tabled × List ℕ
-sheetTabled sheet out = onSheet (λ number value. (table.Refused number value, out)) (λ s. tabled s out) sheet
+abbrev pub sheetTabled : List ℕ → List ℕ → List ℕ → Tabled × List ℕ
+sheetTabled climate block out = onSheets (λ number value. (table.Refused number value, out)) (λ s. tabled s out) climate block

@@ -11,9 +11,9 @@ use Rattle.season.specs.Day.{cropNeed, rainOn}
 use Rattle.season.specs.Closing.{cropUse}
 use Rattle.season.specs.Depths.{netIs, grossOf}
 use Rattle.sheet.specs.Numbers.{written}
-use Rattle.fields.specs.Fields.{seasonOf}
-use Rattle.sheet.specs.Sheets.{sheetOf}
-use Rattle.sheet.specs.Cases.{small, leap}
+use Rattle.fields.specs.Fields.{seasonOf, merged}
+use Rattle.sheet.specs.Sheets.{sheetsOf}
+use Rattle.sheet.specs.Cases.{smallClimate, smallBlock, leapClimate, leapBlock}
 use Rattle.journal.specs.Calls.{openedNumbers}
 use Rattle.planner.specs.declared.Planned.{Planned}
 use Rattle.planner.specs.Answer as planner
@@ -23,21 +23,24 @@ use Rattle.probes.specs.declared.Probe.{Probe}
 use Rattle.probes.specs.declared.Probe.the-variants.{Water, Low, Silent}
 use Rattle.controller.specs.Calls.{sheetOpened, sheetPlanned, sheetProbed, probedNumbers, sheetTabled}
 
--- The small sheet's bytes with these turns, which are its fortieth field.
-abbrev smallSheet : ℕ → List ℕ
-smallSheet turns = written (set small 39 turns)
+-- The small pair's bytes; its block with these turns, which are the block's last number.
+abbrev climate : List ℕ
+climate = written smallClimate
+
+abbrev block : ℕ → List ℕ
+block turns = written (set smallBlock 15 turns)
 
 -- A season with ETo 450, stages of 10, 30, 10 and 30 days, and these Kc ini, mid and end: day 10 of its development is day 20, day 1 of its late stage day 51.
 abbrev thirtyDays : ℕ → ℕ → ℕ → Season
 thirtyDays ini mid end =
     seasonOf (1 ∷ 1 ∷ 10 ∷ 30 ∷ 10 ∷ 30 ∷ ini ∷ mid ∷ end ∷ (replicate 12 450 ++ replicate 12 0 ++ (100 ∷ 20 ∷ 20 ∷ 50 ∷ 75 ∷ 0 ∷ 127 ∷ [])))
 
--- A plan's numbers, and then the lent buffer: the small sheet on a blank journal of eight bytes, and five sevens lent for its four days.
+-- A plan's numbers, and then the lent buffer: the small pair on a blank journal of eight bytes, and five sevens lent for its four days.
 abbrev shown : Planned × List ℕ → List ℕ
 shown a = planner.numbersOf (a .0) ++ a .1
 
 abbrev smallPlan : ℕ → List ℕ
-smallPlan turns = shown (sheetPlanned (smallSheet turns) (replicate 8 0xFF) (replicate 5 7))
+smallPlan turns = shown (sheetPlanned climate (block turns) (replicate 8 0xFF) (replicate 5 7))
 
 unfoldable pub cases : List (List ℕ × List ℕ)
 cases =
@@ -46,7 +49,7 @@ cases =
     ∷ (encode 127, 0x7F ∷ [])
     ∷ (encode 128, 0x80 ∷ 0x01 ∷ [])
     ∷ (encode 120000, 0xC0 ∷ 0xA9 ∷ 0x07 ∷ [])
-    ∷ (verdict.numbersOf (sheetOf (0x80 ∷ 0x00 ∷ []) .verdict), 2 ∷ 1 ∷ [])
+    ∷ (verdict.numbersOf (sheetsOf (0x80 ∷ 0x00 ∷ []) [] .verdict), 2 ∷ 1 ∷ [])
     -- ETo 450, Kc 30 to 115, L 30, k 10: 262.5, so 263. Kc 120 to 35, k 1: 527.
     ∷ (cropNeed (thirtyDays 30 115 35) 20 ∷ cropNeed (thirtyDays 30 120 35) 51 ∷ [], 263 ∷ 527 ∷ [])
     -- q 10,000 gives 8,400; 25,000 and 25,001 give 15,000; 60,000 gives 18,500.
@@ -59,10 +62,10 @@ cases =
     ∷ (grossOf 45 (netIs 6280) .0 ∷ grossOf 75 (netIs 6280) .0 ∷ [], 13956 ∷ 8374 ∷ [])
     -- 01 AC FF FF is torn at 0; mending stores place 1, then place 0: open hands them back (document 02, T-05). FF AC FF FF is damaged.
     ∷ (
-      openedNumbers (sheetOpened (smallSheet 127) (0x01 ∷ 0xAC ∷ 0xFF ∷ 0xFF ∷ [])),
+      openedNumbers (sheetOpened climate (block 127) (0x01 ∷ 0xAC ∷ 0xFF ∷ 0xFF ∷ [])),
       10 ∷ 0 ∷ 1 ∷ (replicate 17 0 ++ (1 ∷ 0xFF ∷ 0 ∷ 0xFF ∷ [])),
     )
-    ∷ (openedNumbers (sheetOpened (smallSheet 127) (0xFF ∷ 0xAC ∷ 0xFF ∷ 0xFF ∷ [])), 9 ∷ 0 ∷ [])
+    ∷ (openedNumbers (sheetOpened climate (block 127) (0xFF ∷ 0xAC ∷ 0xFF ∷ 0xFF ∷ [])), 9 ∷ 0 ∷ [])
     -- turns 127: one watering, day 3, 700, gross 934.
     ∷ (smallPlan 127, 0 ∷ 0 ∷ 1 ∷ 700 ∷ 934 ∷ 0 ∷ 0 ∷ 700 ∷ 0 ∷ 7 ∷ [])
     -- turns 2: refused 16, day 4.
@@ -73,14 +76,14 @@ cases =
     ∷ (smallPlan 1, 16 ∷ 3 ∷ replicate 5 7)
     ∷ []
 
--- ---- the leap sheet
+-- ---- the leap pair
 
--- Its fields, with no forty-first where February has 28 days.
+-- Its block's numbers, with no seventeenth where February has 28 days.
 abbrev february28 : List ℕ
-february28 = leap
+february28 = leapBlock
 
 abbrev february29 : List ℕ
-february29 = leap ++ (29 ∷ [])
+february29 = leapBlock ++ (29 ∷ [])
 
 -- C and planned rain on its four days.
 abbrev days : Season → List ℕ
@@ -93,16 +96,16 @@ abbrev rows : Tabled × List ℕ → List ℕ
 rows a = decades.numbersOf (a .0) ++ a .1
 
 abbrev table : List ℕ → List ℕ
-table fields = rows (sheetTabled (written fields) (replicate 12 7))
+table fields = rows (sheetTabled (written leapClimate) (written fields) (replicate 12 7))
 
 -- The plan on a blank journal.
 abbrev plan : List ℕ → List ℕ
-plan fields = shown (sheetPlanned (written fields) (replicate 8 0xFF) (replicate 4 7))
+plan fields = shown (sheetPlanned (written leapClimate) (written fields) (replicate 8 0xFF) (replicate 4 7))
 
 -- The depletion after so many days are closed, no water having come.
 abbrev dry : List ℕ → ℕ → ℕ
 dry fields closed =
-    getD (openedNumbers (sheetOpened (written fields) (take (2 * closed) (0x03 ∷ 0x01 ∷ 0x03 ∷ 0x02 ∷ 0x03 ∷ 0x03 ∷ 0x03 ∷ 0x04 ∷ []) ++ replicate 8 0xFF))) 3 0
+    getD (openedNumbers (sheetOpened (written leapClimate) (written fields) (take (2 * closed) (0x03 ∷ 0x01 ∷ 0x03 ∷ 0x02 ∷ 0x03 ∷ 0x03 ∷ 0x03 ∷ 0x04 ∷ []) ++ replicate 8 0xFF))) 3 0
 
 abbrev depletions : List ℕ → List ℕ
 depletions fields = dry fields 1 ∷ dry fields 2 ∷ dry fields 3 ∷ dry fields 4 ∷ []
@@ -110,12 +113,12 @@ depletions fields = dry fields 1 ∷ dry fields 2 ∷ dry fields 3 ∷ dry field
 unfoldable pub leapCases : List (List ℕ × List ℕ)
 leapCases =
     -- With 28: day 3 is 1 March.
-    (days (seasonOf february28), 200 ∷ 500 ∷ 1000 ∷ 600 ∷ 300 ∷ 300 ∷ 270 ∷ 271 ∷ [])
+    (days (seasonOf (merged leapClimate february28)), 200 ∷ 500 ∷ 1000 ∷ 600 ∷ 300 ∷ 300 ∷ 270 ∷ 271 ∷ [])
     ∷ (table february28, 0 ∷ 0 ∷ 2 ∷ 2 ∷ 3 ∷ 700 ∷ 600 ∷ 100 ∷ 134 ∷ 3 ∷ 1 ∷ 1600 ∷ 541 ∷ 1059 ∷ 1412 ∷ [])
     ∷ (plan february28, 0 ∷ 0 ∷ 2 ∷ 959 ∷ 1279 ∷ 0 ∷ 0 ∷ 230 ∷ 729 ∷ [])
     ∷ (depletions february28, 200 ∷ 700 ∷ 1700 ∷ 1880 ∷ [])
     -- With 29: day 3 is 29 February, and each day of February has less of its rain.
-    ∷ (days (seasonOf february29), 200 ∷ 500 ∷ 500 ∷ 600 ∷ 289 ∷ 290 ∷ 290 ∷ 270 ∷ [])
+    ∷ (days (seasonOf (merged leapClimate february29)), 200 ∷ 500 ∷ 500 ∷ 600 ∷ 289 ∷ 290 ∷ 290 ∷ 270 ∷ [])
     ∷ (table february29, 0 ∷ 0 ∷ 2 ∷ 2 ∷ 3 ∷ 1200 ∷ 869 ∷ 331 ∷ 442 ∷ 3 ∷ 1 ∷ 600 ∷ 270 ∷ 330 ∷ 440 ∷ [])
     ∷ (plan february29, 0 ∷ 0 ∷ 1 ∷ 440 ∷ 587 ∷ 0 ∷ 0 ∷ 0 ∷ 440 ∷ [])
     ∷ (depletions february29, 200 ∷ 700 ∷ 1200 ∷ 1680 ∷ [])
@@ -130,9 +133,9 @@ water bits = Water (ofBits binary32 bits)
 abbrev low : ℕ → Probe
 low bits = Low (ofBits binary32 bits)
 
--- The small sheet with this full root depth, its thirty-sixth field, on a journal that begins so.
+-- The small pair with this full root depth, the block's twelfth number, on a journal that begins so.
 abbrev probed : ℕ → List ℕ → Probe → Probe → ℕ → List ℕ
-probed full begins shallow deep f = probedNumbers (sheetProbed (written (set small 35 full)) (begins ++ replicate 4 0xFF) shallow deep f)
+probed full begins shallow deep f = probedNumbers (sheetProbed climate (written (set smallBlock 11 full)) (begins ++ replicate 4 0xFF) shallow deep f)
 
 unfoldable pub probeCases : List (List ℕ × List ℕ)
 probeCases =

@@ -7,7 +7,7 @@ use lib.ListN.{length, take}
 use Rattle.season.specs.declared.Season.{Season}
 use Rattle.season.specs.Sheet.{seasonDays}
 use Rattle.season.specs.Day.{rootOn, totalOn}
-use Rattle.sheet.specs.Sheets.{sheetOf}
+use Rattle.sheet.specs.Sheets.{sheetsOf}
 use Rattle.journal.specs.declared.Ledger.{Ledger}
 use Rattle.journal.specs.declared.Lost.the-variants.{Parts}
 use Rattle.journal.specs.Entries.{waiting}
@@ -29,9 +29,9 @@ use Rattle.controller.specs.declared.Probed.the-variants.{Depletions}
 use Rattle.controller.specs.Calls.{sheetOpened, sheetRecorded, sheetLost, sheetPlanned, sheetProbed}
 use Rattle.controller.specs.Refusals.{planOf}
 
--- The entry calls and open, all with one sheet.
-abbrev pub calls : List ℕ → Device
-calls sheet = record { records = sheetRecorded sheet; opened = sheetOpened sheet }
+-- The entry calls and open, all with one pair of sheets.
+abbrev pub calls : List ℕ → List ℕ → Device
+calls climate block = record { records = sheetRecorded climate block; opened = sheetOpened climate block }
 
 -- A plan's answer in document 01's numbers, and what is left in the lent buffer.
 abbrev pub numbered : Planned × List ℕ → List ℕ × List ℕ
@@ -51,20 +51,21 @@ pub record PlanKept (s : Season) (l : Ledger) (out : List ℕ) (a : Planned × L
   pub given : (days net gross : ℕ) (m : List ℕ) → numbered a ≡ (0 ∷ 0 ∷ days ∷ net ∷ gross ∷ [], m)
       → (planOf s l ≡ depths (take (daysLeft s (l .day)) m)) × MadeRight s (l .day) (l .depletion) (waiting l) out m days net gross
 
--- Demand 3 of a history on a blank area, with s the sheet's season, k the book after the history, `area` what its stores left, and a lent buffer.
-pub record Met (sheet : List ℕ) (s : Season) (size : ℕ) (steps : List Step) (out area : List ℕ) (k : Book) : Type 0 where
+-- Demand 3 of a history on a blank area, with s the sheets' season, k the book after the history, `area` what its stores left, and a lent buffer.
+pub record Met (climate block : List ℕ) (s : Season) (size : ℕ) (steps : List Step) (out area : List ℕ) (k : Book) : Type 0 where
   -- Every call answers what the book answers; opening then gives the book's answer, ledger and stores, and never finds damage; and the ledger equation
   -- holds over exactly the accepted entries stored whole.
-  pub kept : Kept (calls sheet) s size steps
+  pub kept : Kept (calls climate block) s size steps
   -- Where the journal is clean, a day is open and the buffer is long enough, the plan is right.
   pub plans : k .loose ≡ [] → ledgerOf s k .day ≤ seasonDays s → daysLeft s (ledgerOf s k .day) ≤ length out
-      → PlanKept s (ledgerOf s k) out (sheetPlanned sheet area out)
+      → PlanKept s (ledgerOf s k) out (sheetPlanned climate block area out)
   -- Where the journal is clean, the losses by any Ky are those of the book's ledger, with all days closed too.
-  pub losses : (ky : ℕ) → 1 ≤ ky → ky ≤ 200 → k .loose ≡ [] → sheetLost sheet area ky ≡ Parts (lossesOf ky (ledgerOf s k))
+  pub losses : (ky : ℕ) → 1 ≤ ky → ky ≤ 200 → k .loose ≡ [] → sheetLost climate block area ky ≡ Parts (lossesOf ky (ledgerOf s k))
   -- Where the journal is clean, a day is open and the probes have a content, they are answered beside the book's depletion, by the open day's Z and T.
   pub probes : (shallow deep : Probe) (f v : ℕ) → 1 ≤ f → f ≤ 6000 → readingOf shallow deep ≡ Content v → k .loose ≡ [] → ledgerOf s k .day ≤ seasonDays s
-      → sheetProbed sheet area shallow deep f ≡ Depletions (ledgerOf s k .depletion) (measured f v (rootOn s (ledgerOf s k .day)) (totalOn s (ledgerOf s k .day)))
+      → sheetProbed climate block area shallow deep f ≡ Depletions (ledgerOf s k .depletion) (measured f v (rootOn s (ledgerOf s k .day)) (totalOn s (ledgerOf s k .day)))
 
-abbrev pub Demand3 : List ℕ → ℕ → List Step → List ℕ → Type 0
-Demand3 sheet size steps out =
-    Met sheet (sheetOf sheet .season) size steps out (areaAfter (calls sheet) (blankArea size) steps) (bookAfter (sheetOf sheet .season) size emptyBook steps)
+abbrev pub Demand3 : List ℕ → List ℕ → ℕ → List Step → List ℕ → Type 0
+Demand3 climate block size steps out =
+    let s = sheetsOf climate block .season in
+    Met climate block s size steps out (areaAfter (calls climate block) (blankArea size) steps) (bookAfter s size emptyBook steps)

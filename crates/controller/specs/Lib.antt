@@ -1,6 +1,7 @@
--- The calls on bytes, as definitions that the contracts cite; why they refuse; demand 3; the cases marked †; and what is proved.
+-- The calls on bytes, as definitions that the contracts cite; why they refuse; demand 3; the calls on one sheet; the cases marked †; and what is proved.
 pub mod Calls
 pub mod Refusals
 pub mod Demands
+pub mod OneSheet
 pub mod Cases
 pub mod Claims

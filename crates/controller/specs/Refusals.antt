@@ -1,5 +1,5 @@
 -- Document 01, 'Why the controller says no': each call's refusals, read downward. A line is a test, the number, the number returned with it. What a call
--- answers is held against the first line that applies by its numbering (`verdictOf` of its numbers). Write's are `writeLines` of sheet's specs/Writing.antt.
+-- answers is held against the first line that applies by its numbering (`verdictOf` of its numbers). The writers' are `writeLines` of sheet's specs/Writing.antt.
 use Prim.Native.Nat.{ℕ, _*_}
 use mathlib.Core.Bool.{Bool, true, false, _&&_, _||_}
 use mathlib.Core.List.{List, [], _∷_, _++_}
@@ -8,8 +8,8 @@ use lib.ListN.{length}
 use Rattle.season.specs.declared.Season.{Season}
 use Rattle.season.specs.Sheet.{seasonDays}
 use Rattle.season.specs.Loss.{kyOutside}
-use Rattle.sheet.specs.Sheets.{sheetOf}
-use Rattle.sheet.specs.Refusals.{sheetLines}
+use Rattle.sheet.specs.Sheets.{sheetsOf}
+use Rattle.sheet.specs.Refusals.{pairLines}
 use Rattle.journal.specs.declared.Entry.{Entry}
 use Rattle.journal.specs.declared.Ledger.{Ledger}
 use Rattle.journal.specs.declared.Opening.{Opening}
@@ -26,11 +26,11 @@ use Rattle.controller.specs.Calls.{capacityOutside}
 abbrev pub Line : Type 0
 Line = Bool × ℕ × ℕ
 
--- ---- 1 to 7, for every call that is given a sheet
+-- ---- 1 to 7, for every call that is given two sheets
 
--- The sheet's own lines, then the call's.
-abbrev pub onLines : List ℕ → (Season → List Line) → List Line
-onLines sheet lines = sheetLines sheet ++ lines (sheetOf sheet .season)
+-- The climate sheet's lines, the block sheet's, then the call's.
+abbrev pub onLines : List ℕ → List ℕ → (Season → List Line) → List Line
+onLines climate block lines = pairLines climate block ++ lines (sheetsOf climate block .season)
 
 -- ---- 8 to 14, and 17
 

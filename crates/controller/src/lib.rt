@@ -1,4 +1,4 @@
-// The calls that firmware and the tablet make (documents 01 and 02), on the sheet's bytes, the journal's area and lent buffers. Each gives the first refusal that applies,
+// The calls that firmware and the tablet make (documents 01 and 02), on the bytes of a climate sheet and a block sheet, the journal's area and lent buffers. Each gives the first refusal that applies,
 // with document 01's number. Nothing here stores to the area: the stores are handed back, and the firmware does them in the order given.
 use decades::Tabled;
 use journal::Entry;
@@ -21,7 +21,7 @@ ghost use Rattle.season.specs.Day.{rootOn, totalOn, AcceptedSeason};
 ghost use Rattle.journal.specs.declared.Entry.the-variants.{Water, Close};
 ghost use Rattle.journal.specs.declared.Source.the-variants.{Rain, Irrigation};
 ghost use Rattle.journal.specs.Opening.{opening};
-ghost use Rattle.sheet.specs.Writing.{sheetWritten};
+ghost use Rattle.sheet.specs.Writing.{climateWritten, blockWritten};
 ghost use Rattle.probes.specs.Contents.{isWrong, isNothing, contentIn};
 ghost use Rattle.probes.specs.Depletion.{measured};
 ghost use Rattle.controller.specs.Calls.{sheetOpened, sheetRecorded, sheetLost, plannedOn, sheetPlanned, capacityOutside, probedBy, probedOn, sheetProbed, sheetTabled};
@@ -33,10 +33,10 @@ pub enum Probed {
 }
 
 // What the journal holds: clean or torn with its ledger, or a refusal; and the places of a torn part to set to FF, in this order. Refusals 1 to 9.
-pub fn open(sheet: &[u8], area: &[u8]) -> Opened
-    ensures { λ r. ⌜ r ≡ sheetOpened (now (sheet .entry)) (now (area .entry)) ⌝ }
+pub fn open(climate: &[u8], block: &[u8], area: &[u8]) -> Opened
+    ensures { λ r. ⌜ r ≡ sheetOpened (now (climate .entry)) (now (block .entry)) (now (area .entry)) ⌝ }
 {
-    let read = sheet::read(sheet);
+    let read = sheet::read(climate, block);
     let season = read.season;
     let verdict = read.verdict;
     match verdict {
@@ -45,11 +45,11 @@ pub fn open(sheet: &[u8], area: &[u8]) -> Opened
     }
 }
 
-// An entry call on a sheet's bytes.
-pub fn record(sheet: &[u8], area: &[u8], e: Entry) -> Recorded
-    ensures { λ r. ⌜ r ≡ sheetRecorded (now (sheet .entry)) (now (area .entry)) e ⌝ }
+// An entry call on the sheets' bytes.
+pub fn record(climate: &[u8], block: &[u8], area: &[u8], e: Entry) -> Recorded
+    ensures { λ r. ⌜ r ≡ sheetRecorded (now (climate .entry)) (now (block .entry)) (now (area .entry)) e ⌝ }
 {
-    let read = sheet::read(sheet);
+    let read = sheet::read(climate, block);
     let season = read.season;
     let verdict = read.verdict;
     match verdict {
@@ -59,31 +59,36 @@ pub fn record(sheet: &[u8], area: &[u8], e: Entry) -> Recorded
 }
 
 // Enters rain of the open day. Refusals 1 to 14.
-pub fn rain(sheet: &[u8], area: &[u8], amount: u32) -> Recorded
-    ensures { λ r. ⌜ r ≡ sheetRecorded (now (sheet .entry)) (now (area .entry)) (Water Rain amount) ⌝ }
+pub fn rain(climate: &[u8], block: &[u8], area: &[u8], amount: u32) -> Recorded
+    ensures { λ r. ⌜ r ≡ sheetRecorded (now (climate .entry)) (now (block .entry)) (now (area .entry)) (Water Rain amount) ⌝ }
 {
-    record(sheet, area, Entry::Water(Source::Rain, amount))
+    record(climate, block, area, Entry::Water(Source::Rain, amount))
 }
 
 // Enters irrigation of the open day, a net amount. Refusals 1 to 14.
-pub fn irrigation(sheet: &[u8], area: &[u8], amount: u32) -> Recorded
-    ensures { λ r. ⌜ r ≡ sheetRecorded (now (sheet .entry)) (now (area .entry)) (Water Irrigation amount) ⌝ }
+pub fn irrigation(climate: &[u8], block: &[u8], area: &[u8], amount: u32) -> Recorded
+    ensures { λ r. ⌜ r ≡ sheetRecorded (now (climate .entry)) (now (block .entry)) (now (area .entry)) (Water Irrigation amount) ⌝ }
 {
-    record(sheet, area, Entry::Water(Source::Irrigation, amount))
+    record(
+        climate,
+        block,
+        area,
+        Entry::Water(Source::Irrigation, amount),
+    )
 }
 
 // Closes the open day. Refusals 1 to 11, and 14.
-pub fn close(sheet: &[u8], area: &[u8]) -> Recorded
-    ensures { λ r. ⌜ r ≡ sheetRecorded (now (sheet .entry)) (now (area .entry)) Close ⌝ }
+pub fn close(climate: &[u8], block: &[u8], area: &[u8]) -> Recorded
+    ensures { λ r. ⌜ r ≡ sheetRecorded (now (climate .entry)) (now (block .entry)) (now (area .entry)) Close ⌝ }
 {
-    record(sheet, area, Entry::Close)
+    record(climate, block, area, Entry::Close)
 }
 
 // Yield lost in the season and in each stage, by a yield response factor in hundredths. Refusals 1 to 9, 17 and 10.
-pub fn loss(sheet: &[u8], area: &[u8], ky: u32) -> Lost
-    ensures { λ r. ⌜ r ≡ sheetLost (now (sheet .entry)) (now (area .entry)) ky ⌝ }
+pub fn loss(climate: &[u8], block: &[u8], area: &[u8], ky: u32) -> Lost
+    ensures { λ r. ⌜ r ≡ sheetLost (now (climate .entry)) (now (block .entry)) (now (area .entry)) ky ⌝ }
 {
-    let read = sheet::read(sheet);
+    let read = sheet::read(climate, block);
     let season = read.season;
     let verdict = read.verdict;
     match verdict {
@@ -116,10 +121,10 @@ fn plan_season(s: Season, area: &[u8], depths: &mut [u32]) -> Planned
 }
 
 // A depth for each remaining day, from the start of a lent buffer; entries beyond the days stay. Refusals 1 to 11, 15 and 16.
-pub fn plan(sheet: &[u8], area: &[u8], depths: &mut [u32]) -> Planned
-    ensures { λ r. ⌜ (r, now (depths .exit)) ≡ sheetPlanned (now (sheet .entry)) (now (area .entry)) (now (depths .entry)) ⌝ }
+pub fn plan(climate: &[u8], block: &[u8], area: &[u8], depths: &mut [u32]) -> Planned
+    ensures { λ r. ⌜ (r, now (depths .exit)) ≡ sheetPlanned (now (climate .entry)) (now (block .entry)) (now (area .entry)) (now (depths .entry)) ⌝ }
 {
-    let read = sheet::read(sheet);
+    let read = sheet::read(climate, block);
     let season = read.season;
     let verdict = read.verdict;
     match verdict {
@@ -219,10 +224,17 @@ fn probe_season(s: Season, area: &[u8], reading: Reading, capacity: u32) -> Prob
 
 // The ledger's depletion, and the one that the block's probes mean by a field capacity in ten-thousandths. It looks only: there are no stores. Refusals
 // 1 to 11, 18 and 19.
-pub fn probe(sheet: &[u8], area: &[u8], shallow: Probe, deep: Probe, capacity: u32) -> Probed
-    ensures { λ r. ⌜ r ≡ sheetProbed (now (sheet .entry)) (now (area .entry)) shallow deep capacity ⌝ }
+pub fn probe(
+    climate: &[u8],
+    block: &[u8],
+    area: &[u8],
+    shallow: Probe,
+    deep: Probe,
+    capacity: u32,
+) -> Probed
+    ensures { λ r. ⌜ r ≡ sheetProbed (now (climate .entry)) (now (block .entry)) (now (area .entry)) shallow deep capacity ⌝ }
 {
-    let read = sheet::read(sheet);
+    let read = sheet::read(climate, block);
     let season = read.season;
     let verdict = read.verdict;
     match verdict {
@@ -237,10 +249,10 @@ pub fn probe(sheet: &[u8], area: &[u8], shallow: Probe, deep: Probe, capacity: u
 }
 
 // The decade table, six numbers a row, from the start of a lent buffer; numbers beyond the rows stay. Refusals 1 to 7, and 15.
-pub fn table(sheet: &[u8], rows: &mut [u32]) -> Tabled
-    ensures { λ r. ⌜ (r, now (rows .exit)) ≡ sheetTabled (now (sheet .entry)) (now (rows .entry)) ⌝ }
+pub fn table(climate: &[u8], block: &[u8], rows: &mut [u32]) -> Tabled
+    ensures { λ r. ⌜ (r, now (rows .exit)) ≡ sheetTabled (now (climate .entry)) (now (block .entry)) (now (rows .entry)) ⌝ }
 {
-    let read = sheet::read(sheet);
+    let read = sheet::read(climate, block);
     let season = read.season;
     let verdict = read.verdict;
     match verdict {
@@ -249,9 +261,16 @@ pub fn table(sheet: &[u8], rows: &mut [u32]) -> Tabled
     }
 }
 
-// The sheet of the tablet's forty-one numbers, from the start of a lent buffer; bytes beyond it stay. Refusals 4 to 7, and 15.
-pub fn write(fields: [u32; 41], sheet: &mut [u8]) -> Written
-    ensures { λ r. ⌜ (r, now (sheet .exit)) ≡ sheetWritten fields (now (sheet .entry)) ⌝ }
+// The climate sheet of twenty-four numbers, from the start of a lent buffer; bytes beyond it stay. Refusals 4 and 15.
+pub fn write_climate(fields: [u32; 24], climate: &mut [u8]) -> Written
+    ensures { λ r. ⌜ (r, now (climate .exit)) ≡ climateWritten fields (now (climate .entry)) ⌝ }
 {
-    sheet::write(fields, sheet)
+    sheet::write_climate(fields, climate)
+}
+
+// The block sheet of the tablet's seventeen numbers, likewise. Refusals 4 to 7, and 15.
+pub fn write_block(fields: [u32; 17], block: &mut [u8]) -> Written
+    ensures { λ r. ⌜ (r, now (block .exit)) ≡ blockWritten fields (now (block .entry)) ⌝ }
+{
+    sheet::write_block(fields, block)
 }

@@ -1,7 +1,7 @@
--- The answer goes by what reading the sheet answered.
+-- The answer goes by what reading the sheets answered.
 use mathlib.Core.Path.{sym, _∙_}
 use denote.Ref.{now}
-use Rattle.controller.proofs.Sheets.{sheet-refused, sheet-accepted, read-accepted-season}
+use Rattle.controller.proofs.Sheets.{sheets-refused, sheets-accepted, read-accepted-season}
 use Rattle.planner.specs.declared.Planned.the-variants.{Refused}
 use Rattle.journal.specs.Opening.{opening}
 use Rattle.controller.specs.Calls.{plannedOn}
@@ -22,14 +22,14 @@ plan-season-requires : tie.Need-plan-season-requires
 plan-season-requires c κs =
     let at-enum-told = c .before in
     let at-read = at-enum-told .before .before .before in
-    read-accepted-season _ (at-read .read .result) (at-read .read .ensures) (at-enum-told .enum-told .given .1)
+    read-accepted-season _ _ (at-read .read .result) (at-read .read .ensures) (at-enum-told .enum-told .given .1)
 
 returns : tie.Need-returns
 returns c =
     let at-verdict = c .before in
     let at-read = at-verdict .before .before .before in
-    let start = at-read .before .before .before .before in
-    sym (sheet-refused (λ number value. (Refused number value, now (start .args .depths))) (λ s. plannedOn s (now (start .args .depths)) (opening s (now (start .args .area)))) (now (start .args .sheet)) (at-read .read .result) (at-read .read .ensures) _ _ (at-verdict .verdict .given .1))
+    let start = at-read .before .before .before .before .before in
+    sym (sheets-refused (λ number value. (Refused number value, now (start .args .depths))) (λ s. plannedOn s (now (start .args .depths)) (opening s (now (start .args .area)))) (now (start .args .climate)) (now (start .args .block)) (at-read .read .result) (at-read .read .ensures) _ _ (at-verdict .verdict .given .1))
 
 same-length : tie.Need-same-length
 same-length c = search needs
@@ -39,8 +39,8 @@ returns-2 c =
     let at-plan-season = c .before .before in
     let at-enum-told = at-plan-season .before .before in
     let at-read = at-enum-told .before .before .before in
-    let start = at-read .before .before .before .before in
-    at-plan-season .plan-season .ensures ∙ sym (sheet-accepted (λ number value. (Refused number value, now (start .args .depths))) (λ s. plannedOn s (now (start .args .depths)) (opening s (now (start .args .area)))) (now (start .args .sheet)) (at-read .read .result) (at-read .read .ensures) (at-enum-told .enum-told .given .1))
+    let start = at-read .before .before .before .before .before in
+    at-plan-season .plan-season .ensures ∙ sym (sheets-accepted (λ number value. (Refused number value, now (start .args .depths))) (λ s. plannedOn s (now (start .args .depths)) (opening s (now (start .args .area)))) (now (start .args .climate)) (now (start .args .block)) (at-read .read .result) (at-read .read .ensures) (at-enum-told .enum-told .given .1))
 
 pub plan-spec : {M : Type 1} → statement M
 plan-spec =

@@ -1,4 +1,4 @@
--- The answer goes by what reading the sheet answered.
+-- The answer goes by what reading the sheets answered.
 use mathlib.Core.Path.{sym, ap, _∙_}
 use denote.Ref.{now}
 use Rattle.journal.specs.Opening.{opening}
@@ -6,7 +6,7 @@ use Rattle.probes.specs.declared.Reading.{Reading}
 use Rattle.probes.specs.Contents.{readingOf}
 use Rattle.controller.specs.declared.Probed.the-variants.{Refused}
 use Rattle.controller.specs.Calls.{probedOn}
-use Rattle.controller.proofs.Sheets.{sheet-refused, sheet-accepted, read-accepted-season}
+use Rattle.controller.proofs.Sheets.{sheets-refused, sheets-accepted, read-accepted-season}
 use borrow.Author.Needs.{needs}
 use Rattle.controller.proofs.probe.Statement.{statement}
 use Rattle.controller.proofs.probe.Tie as tie
@@ -27,24 +27,24 @@ probe-season-requires : tie.Need-probe-season-requires
 probe-season-requires c κs =
     let at-enum-told = c .before in
     let at-read = at-enum-told .before .before .before in
-    read-accepted-season _ (at-read .read .result) (at-read .read .ensures) (at-enum-told .enum-told .given .1)
+    read-accepted-season _ _ (at-read .read .result) (at-read .read .ensures) (at-enum-told .enum-told .given .1)
 
 returns : tie.Need-returns
 returns c =
     let at-verdict = c .before in
     let at-read = at-verdict .before .before .before in
-    let start = at-read .before .before .before in
-    sym (sheet-refused Refused (λ s. probedOn s (readingOf (start .args .shallow) (start .args .deep)) (start .args .capacity) (opening s (now (start .args .area)))) (now (start .args .sheet)) (at-read .read .result) (at-read .read .ensures) _ _ (at-verdict .verdict .given .1))
+    let start = at-read .before .before .before .before in
+    sym (sheets-refused Refused (λ s. probedOn s (readingOf (start .args .shallow) (start .args .deep)) (start .args .capacity) (opening s (now (start .args .area)))) (now (start .args .climate)) (now (start .args .block)) (at-read .read .result) (at-read .read .ensures) _ _ (at-verdict .verdict .given .1))
 
 returns-2 : tie.Need-returns-2
 returns-2 c =
     let at-reading-of = c .before in
     let at-enum-told = at-reading-of .before in
     let at-read = at-enum-told .before .before .before in
-    let start = at-read .before .before .before in
+    let start = at-read .before .before .before .before in
     c .probe-season .ensures
     ∙ ap (λ (r : Reading). probedOn (at-read .read .result .season) r (start .args .capacity) (opening (at-read .read .result .season) (now (start .args .area)))) (at-reading-of .reading-of .ensures)
-    ∙ sym (sheet-accepted Refused (λ s. probedOn s (readingOf (start .args .shallow) (start .args .deep)) (start .args .capacity) (opening s (now (start .args .area)))) (now (start .args .sheet)) (at-read .read .result) (at-read .read .ensures) (at-enum-told .enum-told .given .1))
+    ∙ sym (sheets-accepted Refused (λ s. probedOn s (readingOf (start .args .shallow) (start .args .deep)) (start .args .capacity) (opening s (now (start .args .area)))) (now (start .args .climate)) (now (start .args .block)) (at-read .read .result) (at-read .read .ensures) (at-enum-told .enum-told .given .1))
 
 pub probe-spec : {M : Type 1} → statement M
 probe-spec =

@@ -1,7 +1,7 @@
--- The answer goes by what reading the sheet answered.
+-- The answer goes by what reading the sheets answered.
 use mathlib.Core.Path.{sym, _∙_}
 use denote.Ref.{now}
-use Rattle.controller.proofs.Sheets.{sheet-refused, sheet-accepted, read-accepted-season}
+use Rattle.controller.proofs.Sheets.{sheets-refused, sheets-accepted, read-accepted-season}
 use Rattle.verdict.specs.declared.Verdict.the-variants.{Refused}
 use Rattle.journal.specs.Calls.{noStores, recordedWith, recorded}
 use borrow.Author.Needs.{needs}
@@ -21,21 +21,21 @@ enum-told : tie.Need-enum-told
 enum-told c = search needs
 
 record-requires : tie.Need-record-requires
-record-requires c κs = read-accepted-season _ (c .before .before .before .read .result) (c .before .before .before .read .ensures) (c .enum-told .given .1)
+record-requires c κs = read-accepted-season _ _ (c .before .before .before .read .result) (c .before .before .before .read .ensures) (c .enum-told .given .1)
 
 returns : tie.Need-returns
 returns c =
     let at-verdict = c .before .before in
     let at-read = at-verdict .before .before .before in
-    let start = at-read .before .before .before in
-    c .refused .ensures ∙ sym (sheet-refused (λ number value. recordedWith (Refused number value) noStores) (λ s. recorded s (now (start .args .area)) (start .args .e)) (now (start .args .sheet)) (at-read .read .result) (at-read .read .ensures) _ _ (at-verdict .verdict .given .1))
+    let start = at-read .before .before .before .before in
+    c .refused .ensures ∙ sym (sheets-refused (λ number value. recordedWith (Refused number value) noStores) (λ s. recorded s (now (start .args .area)) (start .args .e)) (now (start .args .climate)) (now (start .args .block)) (at-read .read .result) (at-read .read .ensures) _ _ (at-verdict .verdict .given .1))
 
 returns-2 : tie.Need-returns-2
 returns-2 c =
     let at-enum-told = c .before in
     let at-read = at-enum-told .before .before .before in
-    let start = at-read .before .before .before in
-    c .«record» .ensures ∙ sym (sheet-accepted (λ number value. recordedWith (Refused number value) noStores) (λ s. recorded s (now (start .args .area)) (start .args .e)) (now (start .args .sheet)) (at-read .read .result) (at-read .read .ensures) (at-enum-told .enum-told .given .1))
+    let start = at-read .before .before .before .before in
+    c .«record» .ensures ∙ sym (sheets-accepted (λ number value. recordedWith (Refused number value) noStores) (λ s. recorded s (now (start .args .area)) (start .args .e)) (now (start .args .climate)) (now (start .args .block)) (at-read .read .result) (at-read .read .ensures) (at-enum-told .enum-told .given .1))
 
 pub record-spec : {M : Type 1} → statement M
 record-spec =

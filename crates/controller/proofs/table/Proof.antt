@@ -1,7 +1,7 @@
--- The answer goes by what reading the sheet answered.
+-- The answer goes by what reading the sheets answered.
 use mathlib.Core.Path.{sym, _∙_}
 use denote.Ref.{now}
-use Rattle.controller.proofs.Sheets.{sheet-refused, sheet-accepted, read-accepted-season}
+use Rattle.controller.proofs.Sheets.{sheets-refused, sheets-accepted, read-accepted-season}
 use Rattle.decades.specs.declared.Tabled.the-variants.{Refused}
 use Rattle.decades.specs.Table.{tabled}
 use borrow.Author.Needs.{needs}
@@ -21,14 +21,14 @@ table-requires : tie.Need-table-requires
 table-requires c κs =
     let at-enum-told = c .before in
     let at-read = at-enum-told .before .before .before in
-    read-accepted-season _ (at-read .read .result) (at-read .read .ensures) (at-enum-told .enum-told .given .1) .valid
+    read-accepted-season _ _ (at-read .read .result) (at-read .read .ensures) (at-enum-told .enum-told .given .1) .valid
 
 returns : tie.Need-returns
 returns c =
     let at-verdict = c .before in
     let at-read = at-verdict .before .before .before in
-    let start = at-read .before .before .before in
-    sym (sheet-refused (λ number value. (Refused number value, now (start .args .rows))) (λ s. tabled s (now (start .args .rows))) (now (start .args .sheet)) (at-read .read .result) (at-read .read .ensures) _ _ (at-verdict .verdict .given .1))
+    let start = at-read .before .before .before .before in
+    sym (sheets-refused (λ number value. (Refused number value, now (start .args .rows))) (λ s. tabled s (now (start .args .rows))) (now (start .args .climate)) (now (start .args .block)) (at-read .read .result) (at-read .read .ensures) _ _ (at-verdict .verdict .given .1))
 
 same-length : tie.Need-same-length
 same-length c = search needs
@@ -38,8 +38,8 @@ returns-2 c =
     let at-table = c .before .before in
     let at-enum-told = at-table .before .before in
     let at-read = at-enum-told .before .before .before in
-    let start = at-read .before .before .before in
-    at-table .table .ensures ∙ sym (sheet-accepted (λ number value. (Refused number value, now (start .args .rows))) (λ s. tabled s (now (start .args .rows))) (now (start .args .sheet)) (at-read .read .result) (at-read .read .ensures) (at-enum-told .enum-told .given .1))
+    let start = at-read .before .before .before .before in
+    at-table .table .ensures ∙ sym (sheets-accepted (λ number value. (Refused number value, now (start .args .rows))) (λ s. tabled s (now (start .args .rows))) (now (start .args .climate)) (now (start .args .block)) (at-read .read .result) (at-read .read .ensures) (at-enum-told .enum-told .given .1))
 
 pub table-spec : {M : Type 1} → statement M
 table-spec =
