@@ -13,12 +13,13 @@ use Rattle.verdict.specs.declared.Verdict.{Verdict}
 use Rattle.verdict.specs.declared.Verdict.the-variants.{Accepted, Refused}
 use Rattle.verdict.specs.Refusals.{firstOf}
 use Rattle.verdict.proofs.First.{Refusal, first-refusal}
-use Rattle.sheet.proofs.Numbered.{refused-is, write-refused-is}
+use Rattle.sheet.proofs.Numbered.{refused-is, climate-write-refused-is, block-write-refused-is}
 use Rattle.sheet.proofs.Claims as sheets
 use Rattle.sheet.specs.declared.Written.{Written}
 use Rattle.sheet.specs.declared.Written.the-variants as writer
-use Rattle.sheet.specs.Writing.{sheetFields, sheetWritten, writeVerdict}
-use Rattle.sheet.specs.Sheets.{sheetOf}
+use Rattle.sheet.specs.Numbers.{written}
+use Rattle.sheet.specs.Writing.{sheetFields, climateWritten, blockWritten, writeVerdict}
+use Rattle.sheet.specs.Sheets.{sheetsOf}
 use Rattle.season.specs.Sheet.{seasonDays, longestSeason}
 use Rattle.journal.specs.declared.Entry.{Entry}
 use Rattle.journal.specs.declared.Ledger.{Ledger}
@@ -48,15 +49,15 @@ use Rattle.probes.specs.declared.Reading.{Reading}
 use Rattle.probes.specs.Contents.{readingOf}
 use Rattle.controller.specs.declared.Probed.the-variants as probed
 use Rattle.controller.specs.Calls.{plannedOn, probeRefusals, probedUnless, probedBy, probedOn, sheetOpened, sheetRecorded, sheetLost, sheetPlanned, sheetProbed, sheetTabled}
-use Rattle.controller.proofs.Sheets.{on-sheet}
+use Rattle.controller.proofs.Sheets.{on-sheets}
 use Rattle.controller.proofs.Refusing.{opening-by}
 use Rattle.controller.proofs.Claims.{claims}
 use Rattle.exports.specs.Small.{SmallVerdict, SmallOpening, SmallOpened, SmallRecorded, SmallLost, SmallPlanned, SmallProbed, SmallTabled, SmallWritten}
 
--- ---- the sheet
+-- ---- the sheets
 
-refused-small : (b : List ℕ) (number value : ℕ) → sheetOf b .verdict ≡ Refused number value → value ≤ 8192
-refused-small b number value e = omega (arith, refused-is b number value e .1)
+refused-small : (climate block : List ℕ) (number value : ℕ) → sheetsOf climate block .verdict ≡ Refused number value → value ≤ 8192
+refused-small climate block number value e = omega (arith, refused-is climate block number value e .1)
 
 -- ---- open
 
@@ -98,11 +99,11 @@ record Wipes (r : Opened) : Type 0 where
   opening : SmallOpening (r .opening)
   places : EachUpTo 8192 (r .places)
 
-opened-wipes : (sheet area : List ℕ) → Wipes (sheetOpened sheet area)
+opened-wipes : (climate block area : List ℕ) → Wipes (sheetOpened climate block area)
 unfolding opened openedOn
-opened-wipes sheet area =
-    on-sheet (λ number value. openedWith (found.Refused number value) []) (λ s. opened s area) sheet Wipes
-    (λ number value v. record { opening = refused-small sheet number value v; places = zeros-up-to 8192 })
+opened-wipes climate block area =
+    on-sheets (λ number value. openedWith (found.Refused number value) []) (λ s. opened s area) climate block Wipes
+    (λ number value v. record { opening = refused-small climate block number value v; places = zeros-up-to 8192 })
     (λ s v q o. opening-by s area (λ p. Wipes (openedOn area p))
     (λ h. record { opening = omega arith; places = zeros-up-to 8192 })
     (λ h l i. record { opening = omega arith; places = zeros-up-to 8192 })
@@ -112,10 +113,10 @@ opened-wipes sheet area =
     })
     (λ h l i. record { opening = omega arith; places = zeros-up-to 8192 }))
 
-pub opened-small : (sheet area : List ℕ) → SmallOpened (sheetOpened sheet area)
-opened-small sheet area =
-    let w = opened-wipes sheet area in
-    record { opening = w .opening; count = omega (arith, claims .opened-occurs sheet area .placed .few); places = w .places }
+pub opened-small : (climate block area : List ℕ) → SmallOpened (sheetOpened climate block area)
+opened-small climate block area =
+    let w = opened-wipes climate block area in
+    record { opening = w .opening; count = omega (arith, claims .opened-occurs climate block area .placed .few); places = w .places }
 
 -- ---- rain, irrigation and close
 
@@ -139,11 +140,11 @@ unfolding recordedWith
 recorded-with-begins Accepted w a h = record { verdict = tt; start = h }
 recorded-with-begins (Refused number value) w a h = record { verdict = a; start = omega arith }
 
-recorded-begins : (sheet area : List ℕ) (e : Entry) → Begins (sheetRecorded sheet area e)
+recorded-begins : (climate block area : List ℕ) (e : Entry) → Begins (sheetRecorded climate block area e)
 unfolding recorded recordedOn storesOf
-recorded-begins sheet area e =
-    on-sheet (λ number value. recordedWith (Refused number value) noStores) (λ s. recorded s area e) sheet Begins
-    (λ number value v. recorded-with-begins (Refused number value) noStores (refused-small sheet number value v) (omega arith))
+recorded-begins climate block area e =
+    on-sheets (λ number value. recordedWith (Refused number value) noStores) (λ s. recorded s area e) climate block Begins
+    (λ number value v. recorded-with-begins (Refused number value) noStores (refused-small climate block number value v) (omega arith))
     (λ s v q o. opening-by s area (λ o. Begins (recordedOn (seasonDays s) (length area) e o))
     (λ h. recorded-with-begins (Refused 8 0) noStores (omega arith) (omega arith))
     (λ h l i. recorded-with-begins (refusal (seasonDays s) (length area) l e) (storesOf l e) (entry-small (seasonDays s) (length area) l e) (omega arith))
@@ -154,10 +155,10 @@ few-stores : (v : Verdict) (w : Stores) → StoresOccur v w → w .count ≤ 819
 few-stores Accepted w h = omega (arith, h .few)
 few-stores (Refused number value) w h = omega (arith, ap (λ (x : Stores). x .count) (h .1))
 
-pub recorded-small : (sheet area : List ℕ) (e : Entry) → SmallRecorded (sheetRecorded sheet area e)
-recorded-small sheet area e =
-    let b = recorded-begins sheet area e in
-    record { verdict = b .verdict; start = b .start; count = few-stores (sheetRecorded sheet area e .verdict) (sheetRecorded sheet area e .stores) (claims .recorded-occurs sheet area e) }
+pub recorded-small : (climate block area : List ℕ) (e : Entry) → SmallRecorded (sheetRecorded climate block area e)
+recorded-small climate block area e =
+    let b = recorded-begins climate block area e in
+    record { verdict = b .verdict; start = b .start; count = few-stores (sheetRecorded climate block area e .verdict) (sheetRecorded climate block area e .stores) (claims .recorded-occurs climate block area e) }
 
 -- ---- loss
 
@@ -171,11 +172,11 @@ lost-by-small ky l t place h =
     unless Accepted a = tt
     unless (Refused number value) a = a
 
-pub lost-small : (sheet area : List ℕ) (ky : ℕ) → SmallLost (sheetLost sheet area ky)
+pub lost-small : (climate block area : List ℕ) (ky : ℕ) → SmallLost (sheetLost climate block area ky)
 unfolding lost lostOn
-lost-small sheet area ky =
-    on-sheet losing.Refused (λ s. lost s area ky) sheet SmallLost
-    (λ number value v. refused-small sheet number value v)
+lost-small climate block area ky =
+    on-sheets losing.Refused (λ s. lost s area ky) climate block SmallLost
+    (λ number value v. refused-small climate block number value v)
     (λ s v q o. opening-by s area (λ p. SmallLost (lostOn ky p)) (λ h. omega arith) (λ h l i. lost-by-small ky l false 0 (omega arith)) (λ h l i. lost-by-small ky l true (l .place) (omega arith)) (λ h l i. omega arith))
 
 -- ---- probe
@@ -190,12 +191,12 @@ probed-by-small s r f day depletion =
     unless Accepted p a = tt
     unless (Refused number value) p a = a
 
-pub probed-small : (sheet area : List ℕ) (shallow deep : Probe) (f : ℕ) → SmallProbed (sheetProbed sheet area shallow deep f)
+pub probed-small : (climate block area : List ℕ) (shallow deep : Probe) (f : ℕ) → SmallProbed (sheetProbed climate block area shallow deep f)
 unfolding probedOn
-probed-small sheet area shallow deep f =
+probed-small climate block area shallow deep f =
     let r = readingOf shallow deep in
-    on-sheet probed.Refused (λ s. probedOn s r f (opening s area)) sheet SmallProbed
-    (λ number value v. refused-small sheet number value v)
+    on-sheets probed.Refused (λ s. probedOn s r f (opening s area)) climate block SmallProbed
+    (λ number value v. refused-small climate block number value v)
     (λ s v q o. opening-by s area (λ p. SmallProbed (probedOn s r f p)) (λ h. omega arith) (λ h l i. probed-by-small s r f (l .day) (l .depletion)) (λ h l i. omega arith) (λ h l i. omega arith))
 
 -- ---- plan and table
@@ -235,25 +236,33 @@ module _ (s : Season) (sown : AcceptedSeason s) (out : List ℕ) where
       go true = omega arith
       go false = omega (arith, rows-at-most s (sown .valid))
 
-pub planned-small : (sheet area out : List ℕ) → SmallPlanned (sheetPlanned sheet area out .0)
+pub planned-small : (climate block area out : List ℕ) → SmallPlanned (sheetPlanned climate block area out .0)
 unfolding plannedOn
-planned-small sheet area out =
-    on-sheet (λ number value. (planned.Refused number value, out)) (λ s. plannedOn s out (opening s area)) sheet (λ (a : Planned × List ℕ). SmallPlanned (a .0))
-    (λ number value v. refused-small sheet number value v)
+planned-small climate block area out =
+    on-sheets (λ number value. (planned.Refused number value, out)) (λ s. plannedOn s out (opening s area)) climate block (λ (a : Planned × List ℕ). SmallPlanned (a .0))
+    (λ number value v. refused-small climate block number value v)
     (λ s v q o. opening-by s area (λ p. SmallPlanned (plannedOn s out p .0)) (λ h. omega arith) (λ h l i. ledger-small s o out l) (λ h l i. omega arith) (λ h l i. omega arith))
 
-pub tabled-small : (sheet out : List ℕ) → SmallTabled (sheetTabled sheet out .0)
-tabled-small sheet out =
-    on-sheet (λ number value. (table.Refused number value, out)) (λ s. tabled s out) sheet (λ (a : Tabled × List ℕ). SmallTabled (a .0))
-    (λ number value v. refused-small sheet number value v)
+pub tabled-small : (climate block out : List ℕ) → SmallTabled (sheetTabled climate block out .0)
+tabled-small climate block out =
+    on-sheets (λ number value. (table.Refused number value, out)) (λ s. tabled s out) climate block (λ (a : Tabled × List ℕ). SmallTabled (a .0))
+    (λ number value v. refused-small climate block number value v)
     (λ s v q o. rows-few s o out)
 
--- ---- write
+-- ---- the writers
 
-pub written-small : (fields out : List ℕ) → length fields ≡ 41 → SmallWritten (sheetWritten fields out .0)
-written-small fields out n = go (sheetWritten fields out .0) refl
-  where
-    go : (w : Written) → sheetWritten fields out .0 ≡ w → SmallWritten w
-    go (writer.Made count) e = omega (arith, sheets.claims .write-length fields out count n e .1)
-    go (writer.Refused number value) e =
-        omega (arith, write-refused-is (sheetFields fields) (length out) number value (sym (sheets.claims .write-refuses fields out) ∙ ap writeVerdict e))
+written-small : (w : Written) → ((count : ℕ) → w ≡ writer.Made count → count ≤ 8192) → ((number value : ℕ) → w ≡ writer.Refused number value → value ≤ 8192) → SmallWritten w
+written-small (writer.Made count) f g = f count refl
+written-small (writer.Refused number value) f g = g number value refl
+
+pub climate-small : (fields out : List ℕ) → length fields ≡ 24 → SmallWritten (climateWritten fields out .0)
+climate-small fields out n =
+    written-small (climateWritten fields out .0)
+    (λ count e. omega (arith, sheets.claims .climate-write-length fields out count n e .1))
+    (λ number value e. omega (arith, climate-write-refused-is (written fields) (length out) number value fields (sym (sheets.claims .climate-write-refuses fields out) ∙ ap writeVerdict e)))
+
+pub block-small : (fields out : List ℕ) → length fields ≡ 17 → SmallWritten (blockWritten fields out .0)
+block-small fields out n =
+    written-small (blockWritten fields out .0)
+    (λ count e. omega (arith, sheets.claims .block-write-length fields out count n e .1))
+    (λ number value e. omega (arith, block-write-refused-is (written (sheetFields fields)) (length out) number value (sheetFields fields) (sym (sheets.claims .block-write-refuses fields out) ∙ ap writeVerdict e)))

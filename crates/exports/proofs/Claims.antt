@@ -31,7 +31,7 @@ use Rattle.decades.specs.Table as decades
 use Rattle.sheet.specs.declared.Written.{Written}
 use Rattle.sheet.specs.declared.Written.the-variants as made
 use Rattle.sheet.specs.Writing as writer
-use Rattle.sheet.specs.Writing.{sheetWritten}
+use Rattle.sheet.specs.Writing.{climateWritten, blockWritten}
 use Rattle.season.proofs.Stores.{at-start}
 use Rattle.controller.specs.Calls.{sheetOpened, sheetRecorded, sheetLost, sheetPlanned, sheetProbed, probedNumbers, sheetTabled}
 use Rattle.controller.proofs.Claims as controller
@@ -39,7 +39,7 @@ use Rattle.verdict.specs.Refusals.{numbersThen}
 use Rattle.exports.specs.Written.{outLength, writtenOver, withLedger, openedOut}
 use Rattle.exports.specs.Kinds.{probeOf}
 use Rattle.exports.specs.Claims.{Claims}
-use Rattle.exports.proofs.Bounds.{opened-small, recorded-small, lost-small, planned-small, probed-small, tabled-small, written-small}
+use Rattle.exports.proofs.Bounds.{opened-small, recorded-small, lost-small, planned-small, probed-small, tabled-small, climate-small, block-small}
 
 over-first : (ns out : List ℕ) → length ns ≤ length out → writtenOver ns out ≡ ns ++ drop (length ns) out
 over-first ns out h = at-start ns out h
@@ -123,20 +123,22 @@ pub claims : Claims
 unfolding probeOf
 claims = record {
   over-first = over-first;
-  opened-fits = λ sheet area. opening-length (sheetOpened sheet area .opening) (sheetOpened sheet area) (controller.claims .opened-occurs sheet area .placed);
-  recorded-fits = λ sheet area e. stores-length (sheetRecorded sheet area e .verdict) (sheetRecorded sheet area e .stores) (controller.claims .recorded-occurs sheet area e);
-  lost-fits = λ sheet area ky. lost-length (sheetLost sheet area ky);
-  planned-fits = λ sheet area depths. planned-length (sheetPlanned sheet area depths .0);
-  probed-fits = λ sheet area shallow deep f. probed-length (sheetProbed sheet area shallow deep f);
-  tabled-fits = λ sheet rows. tabled-length (sheetTabled sheet rows .0);
-  written-fits = λ fields sheet. written-length (sheetWritten fields sheet .0);
+  opened-fits = λ climate block area. opening-length (sheetOpened climate block area .opening) (sheetOpened climate block area) (controller.claims .opened-occurs climate block area .placed);
+  recorded-fits = λ climate block area e. stores-length (sheetRecorded climate block area e .verdict) (sheetRecorded climate block area e .stores) (controller.claims .recorded-occurs climate block area e);
+  lost-fits = λ climate block area ky. lost-length (sheetLost climate block area ky);
+  planned-fits = λ climate block area depths. planned-length (sheetPlanned climate block area depths .0);
+  probed-fits = λ climate block area shallow deep f. probed-length (sheetProbed climate block area shallow deep f);
+  tabled-fits = λ climate block rows. tabled-length (sheetTabled climate block rows .0);
+  climate-fits = λ fields climate. written-length (climateWritten fields climate .0);
+  block-fits = λ fields block. written-length (blockWritten fields block .0);
   opened-small = opened-small;
   recorded-small = recorded-small;
   lost-small = lost-small;
   planned-small = planned-small;
   probed-small = probed-small;
   tabled-small = tabled-small;
-  written-small = written-small;
+  climate-small = climate-small;
+  block-small = block-small;
   kind-water = λ x. refl;
   kind-low = λ x. refl;
   kind-silent = kind-silent;

@@ -43,10 +43,10 @@ three-are (a ∷ b ∷ c ∷ []) h = refl
 three-are (a ∷ b ∷ c ∷ d ∷ xs) h = absurd (omega arith)
 
 -- Behind other numbers, the count and the places of an opening.
-pub places-over : {r : Opened} (sheet area : List ℕ) → r ≡ sheetOpened sheet area → (ns out : List ℕ)
+pub places-over : {r : Opened} (climate block area : List ℕ) → r ≡ sheetOpened climate block area → (ns out : List ℕ)
     → writtenOver (ns ++ (r .count ∷ getD (r .places) 0 0 ∷ getD (r .places) 1 0 ∷ getD (r .places) 2 0 ∷ [])) out ≡ writtenOver (ns ++ (r .count ∷ r .places)) out
-places-over {r} sheet area e ns out =
-    let size : length (r .places) ≡ 3 = ap (λ (q : Opened). length (q .places)) e ∙ claims .opened-occurs sheet area .placed .size in
+places-over {r} climate block area e ns out =
+    let size : length (r .places) ≡ 3 = ap (λ (q : Opened). length (q .places)) e ∙ claims .opened-occurs climate block area .placed .size in
     ap (λ (ps : List ℕ). writtenOver (ns ++ (r .count ∷ ps)) out) (three-are (r .places) size)
 
 pub four-are : (xs : List ℕ) → length xs ≡ 4 → getD xs 0 0 ∷ getD xs 1 0 ∷ getD xs 2 0 ∷ getD xs 3 0 ∷ [] ≡ xs

@@ -12,7 +12,7 @@ use Rattle.journal.specs.Claims.{RecordedOccurs, OpenedOccurs}
 use Rattle.planner.specs.Answer as planner
 use Rattle.decades.specs.Table as decades
 use Rattle.sheet.specs.Writing as writer
-use Rattle.sheet.specs.Writing.{sheetWritten}
+use Rattle.sheet.specs.Writing.{climateWritten, blockWritten}
 use Rattle.probes.specs.declared.Probe.{Probe}
 use Rattle.probes.specs.declared.Probe.the-variants.{Water, Low, Silent}
 use Rattle.controller.specs.Calls.{sheetOpened, sheetRecorded, sheetLost, sheetPlanned, sheetProbed, probedNumbers, sheetTabled}
@@ -24,21 +24,23 @@ pub record Claims : Type 0 where
   -- Numbers that an array has room for stand first in it, and what stood beyond them stays.
   pub over-first : (ns out : List ℕ) → length ns ≤ length out → writtenOver ns out ≡ ns ++ drop (length ns) out
   -- The array has room for every answer.
-  pub opened-fits : (sheet area : List ℕ) → length (openedOut (sheetOpened sheet area)) ≤ outLength
-  pub recorded-fits : (sheet area : List ℕ) (e : Entry) → length (recordedOut (sheetRecorded sheet area e)) ≤ outLength
-  pub lost-fits : (sheet area : List ℕ) (ky : ℕ) → length (lossNumbers (sheetLost sheet area ky)) ≤ outLength
-  pub planned-fits : (sheet area depths : List ℕ) → length (planner.numbersOf (sheetPlanned sheet area depths .0)) ≤ outLength
-  pub probed-fits : (sheet area : List ℕ) (shallow deep : Probe) (f : ℕ) → length (probedNumbers (sheetProbed sheet area shallow deep f)) ≤ outLength
-  pub tabled-fits : (sheet rows : List ℕ) → length (decades.numbersOf (sheetTabled sheet rows .0)) ≤ outLength
-  pub written-fits : (fields sheet : List ℕ) → length (writer.numbersOf (sheetWritten fields sheet .0)) ≤ outLength
+  pub opened-fits : (climate block area : List ℕ) → length (openedOut (sheetOpened climate block area)) ≤ outLength
+  pub recorded-fits : (climate block area : List ℕ) (e : Entry) → length (recordedOut (sheetRecorded climate block area e)) ≤ outLength
+  pub lost-fits : (climate block area : List ℕ) (ky : ℕ) → length (lossNumbers (sheetLost climate block area ky)) ≤ outLength
+  pub planned-fits : (climate block area depths : List ℕ) → length (planner.numbersOf (sheetPlanned climate block area depths .0)) ≤ outLength
+  pub probed-fits : (climate block area : List ℕ) (shallow deep : Probe) (f : ℕ) → length (probedNumbers (sheetProbed climate block area shallow deep f)) ≤ outLength
+  pub tabled-fits : (climate block rows : List ℕ) → length (decades.numbersOf (sheetTabled climate block rows .0)) ≤ outLength
+  pub climate-fits : (fields climate : List ℕ) → length (writer.numbersOf (climateWritten fields climate .0)) ≤ outLength
+  pub block-fits : (fields block : List ℕ) → length (writer.numbersOf (blockWritten fields block .0)) ≤ outLength
   -- No place, count or number returned with a refusal passes 8,192.
-  pub opened-small : (sheet area : List ℕ) → SmallOpened (sheetOpened sheet area)
-  pub recorded-small : (sheet area : List ℕ) (e : Entry) → SmallRecorded (sheetRecorded sheet area e)
-  pub lost-small : (sheet area : List ℕ) (ky : ℕ) → SmallLost (sheetLost sheet area ky)
-  pub planned-small : (sheet area depths : List ℕ) → SmallPlanned (sheetPlanned sheet area depths .0)
-  pub probed-small : (sheet area : List ℕ) (shallow deep : Probe) (f : ℕ) → SmallProbed (sheetProbed sheet area shallow deep f)
-  pub tabled-small : (sheet rows : List ℕ) → SmallTabled (sheetTabled sheet rows .0)
-  pub written-small : (fields sheet : List ℕ) → length fields ≡ 41 → SmallWritten (sheetWritten fields sheet .0)
+  pub opened-small : (climate block area : List ℕ) → SmallOpened (sheetOpened climate block area)
+  pub recorded-small : (climate block area : List ℕ) (e : Entry) → SmallRecorded (sheetRecorded climate block area e)
+  pub lost-small : (climate block area : List ℕ) (ky : ℕ) → SmallLost (sheetLost climate block area ky)
+  pub planned-small : (climate block area depths : List ℕ) → SmallPlanned (sheetPlanned climate block area depths .0)
+  pub probed-small : (climate block area : List ℕ) (shallow deep : Probe) (f : ℕ) → SmallProbed (sheetProbed climate block area shallow deep f)
+  pub tabled-small : (climate block rows : List ℕ) → SmallTabled (sheetTabled climate block rows .0)
+  pub climate-small : (fields climate : List ℕ) → length fields ≡ 24 → SmallWritten (climateWritten fields climate .0)
+  pub block-small : (fields block : List ℕ) → length fields ≡ 17 → SmallWritten (blockWritten fields block .0)
   -- A probe's kind: 1 is a water content, 2 a low supply voltage, every other number silent.
   pub kind-water : (x : Float) → probeOf 1 x ≡ Water x
   pub kind-low : (x : Float) → probeOf 2 x ≡ Low x

@@ -38,7 +38,7 @@ openedOut r = openings.numbersOf (r .opening) ++ withLedger (r .opening) (r .cou
 abbrev pub recordedOut : Recorded → List ℕ
 recordedOut r = numbersThen (r .verdict) (r .stores .start ∷ r .stores .count ∷ r .stores .bytes)
 
--- Plan, table and write: the array and the lent buffer, of the answer and the buffer that the controller gives.
+-- Plan, table and both writers: the array and the lent buffer, of the answer and the buffer that the controller gives.
 abbrev pub plannedOver : List ℕ → Planned × List ℕ → List ℕ × List ℕ
 plannedOver out a = (writtenOver (planner.numbersOf (a .0)) out, a .1)
 

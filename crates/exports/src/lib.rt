@@ -21,11 +21,12 @@ ghost use Rattle.journal.specs.declared.Source.the-variants.{Rain, Irrigation};
 ghost use Rattle.journal.specs.Entries.{ledgerNumbers};
 ghost use Rattle.journal.specs.Loss.{lossNumbers};
 ghost use Rattle.planner.specs.Answer.{numbersOf};
-ghost use Rattle.sheet.specs.Writing.{sheetWritten};
+ghost use Rattle.sheet.specs.Writing as writer;
+ghost use Rattle.sheet.specs.Writing.{climateWritten, blockWritten};
 ghost use Rattle.controller.specs.Calls.{sheetOpened, sheetRecorded, sheetLost, sheetPlanned, sheetProbed, probedNumbers, sheetTabled};
 ghost use Rattle.exports.specs.Kinds.{probeOf};
 ghost use Rattle.exports.specs.Written.{writtenOver, openedOut, recordedOut, plannedOver, tabledOver, sheetOver};
-ghost use Rattle.exports.specs.Small.{SmallPlanned};
+ghost use Rattle.exports.specs.Small.{SmallPlanned, SmallWritten};
 
 // How many numbers `out` has: those of the longest answer, an opening's.
 pub const OUT: usize = 24;
@@ -155,10 +156,10 @@ fn put_size(out: &mut [u32; OUT], size: usize)
 }
 
 // An entry call.
-fn put_entry(sheet: &[u8], area: &[u8], e: Entry, out: &mut [u32; OUT])
-    ensures { λ _. ⌜ now (out .exit) ≡ writtenOver (recordedOut (sheetRecorded (now (sheet .entry)) (now (area .entry)) e)) (now (out .entry)) ⌝ }
+fn put_entry(climate: &[u8], block: &[u8], area: &[u8], e: Entry, out: &mut [u32; OUT])
+    ensures { λ _. ⌜ now (out .exit) ≡ writtenOver (recordedOut (sheetRecorded (now (climate .entry)) (now (block .entry)) (now (area .entry)) e)) (now (out .entry)) ⌝ }
 {
-    let recorded = controller::record(sheet, area, e);
+    let recorded = controller::record(climate, block, area, e);
     let verdict = recorded.verdict;
     let stores = recorded.stores;
     let bytes = stores.bytes;
@@ -168,14 +169,28 @@ fn put_entry(sheet: &[u8], area: &[u8], e: Entry, out: &mut [u32; OUT])
     }
 }
 
-// The writer's answer, with the sheet in the lent buffer. (The numbers by value: an array tells its length, a reference to one does not.)
-fn put_sheet(fields: [u32; 41], sheet: &mut [u8], out: &mut [u32; OUT])
-    ensures { λ _. ⌜ (now (out .exit), now (sheet .exit)) ≡ sheetOver (now (out .entry)) (sheetWritten fields (now (sheet .entry))) ⌝ }
+// A writer's answer by its case.
+fn put_written(out: &mut [u32; OUT], w: Written)
+    requires { ⌜ SmallWritten w ⌝ }
+    ensures { λ _. ⌜ now (out .exit) ≡ writtenOver (writer.numbersOf w) (now (out .entry)) ⌝ }
 {
-    match controller::write(fields, sheet) {
+    match w {
         Written::Made(count) => put_size(out, count),
         Written::Refused(number, value) => put_refusal(out, number, value),
     }
+}
+
+// A writer's answer, with the sheet in the lent buffer. (The numbers by value: an array tells its length, a reference to one does not.)
+fn put_climate(fields: [u32; 24], climate: &mut [u8], out: &mut [u32; OUT])
+    ensures { λ _. ⌜ (now (out .exit), now (climate .exit)) ≡ sheetOver (now (out .entry)) (climateWritten fields (now (climate .entry))) ⌝ }
+{
+    put_written(out, controller::write_climate(fields, climate));
+}
+
+fn put_block(fields: [u32; 17], block: &mut [u8], out: &mut [u32; OUT])
+    ensures { λ _. ⌜ (now (out .exit), now (block .exit)) ≡ sheetOver (now (out .entry)) (blockWritten fields (now (block .entry))) ⌝ }
+{
+    put_written(out, controller::write_block(fields, block));
 }
 
 // A probe by its kind: 1 water content, 2 low supply voltage, any other number silent.
@@ -191,15 +206,15 @@ fn probe_of(kind: u32, x: f32) -> Probe
     Probe::Silent
 }
 
-// ---- the nine calls
+// ---- the ten calls
 
 // Clean or torn: open day, depletion, waiting rain, waiting irrigation, season rain, irrigation, use, percolation, place, need, need and use of each
 // stage, and how many places to set to FF and three places, highest first. Refusals 1 to 9.
 #[no_mangle]
-pub extern "C" fn balladsky_open(sheet: &[u8], area: &[u8], out: &mut [u32; OUT])
-    ensures { λ _. ⌜ now (out .exit) ≡ writtenOver (openedOut (sheetOpened (now (sheet .entry)) (now (area .entry)))) (now (out .entry)) ⌝ }
+pub extern "C" fn balladsky_open(climate: &[u8], block: &[u8], area: &[u8], out: &mut [u32; OUT])
+    ensures { λ _. ⌜ now (out .exit) ≡ writtenOver (openedOut (sheetOpened (now (climate .entry)) (now (block .entry)) (now (area .entry)))) (now (out .entry)) ⌝ }
 {
-    let opened = controller::open(sheet, area);
+    let opened = controller::open(climate, block, area);
     let opening = opened.opening;
     let places = opened.places;
     match opening {
@@ -211,34 +226,64 @@ pub extern "C" fn balladsky_open(sheet: &[u8], area: &[u8], out: &mut [u32; OUT]
 
 // Start, count, four bytes. Refusals 1 to 14.
 #[no_mangle]
-pub extern "C" fn balladsky_rain(sheet: &[u8], area: &[u8], amount: u32, out: &mut [u32; OUT])
-    ensures { λ _. ⌜ now (out .exit) ≡ writtenOver (recordedOut (sheetRecorded (now (sheet .entry)) (now (area .entry)) (Water Rain amount))) (now (out .entry)) ⌝ }
+pub extern "C" fn balladsky_rain(
+    climate: &[u8],
+    block: &[u8],
+    area: &[u8],
+    amount: u32,
+    out: &mut [u32; OUT],
+)
+    ensures { λ _. ⌜ now (out .exit) ≡ writtenOver (recordedOut (sheetRecorded (now (climate .entry)) (now (block .entry)) (now (area .entry)) (Water Rain amount))) (now (out .entry)) ⌝ }
 {
-    put_entry(sheet, area, Entry::Water(Source::Rain, amount), out);
+    put_entry(
+        climate,
+        block,
+        area,
+        Entry::Water(Source::Rain, amount),
+        out,
+    );
 }
 
 // Start, count, four bytes. Refusals 1 to 14.
 #[no_mangle]
-pub extern "C" fn balladsky_irrigation(sheet: &[u8], area: &[u8], amount: u32, out: &mut [u32; OUT])
-    ensures { λ _. ⌜ now (out .exit) ≡ writtenOver (recordedOut (sheetRecorded (now (sheet .entry)) (now (area .entry)) (Water Irrigation amount))) (now (out .entry)) ⌝ }
+pub extern "C" fn balladsky_irrigation(
+    climate: &[u8],
+    block: &[u8],
+    area: &[u8],
+    amount: u32,
+    out: &mut [u32; OUT],
+)
+    ensures { λ _. ⌜ now (out .exit) ≡ writtenOver (recordedOut (sheetRecorded (now (climate .entry)) (now (block .entry)) (now (area .entry)) (Water Irrigation amount))) (now (out .entry)) ⌝ }
 {
-    put_entry(sheet, area, Entry::Water(Source::Irrigation, amount), out);
+    put_entry(
+        climate,
+        block,
+        area,
+        Entry::Water(Source::Irrigation, amount),
+        out,
+    );
 }
 
 // Start, count, four bytes. Refusals 1 to 11, and 14.
 #[no_mangle]
-pub extern "C" fn balladsky_close(sheet: &[u8], area: &[u8], out: &mut [u32; OUT])
-    ensures { λ _. ⌜ now (out .exit) ≡ writtenOver (recordedOut (sheetRecorded (now (sheet .entry)) (now (area .entry)) Close)) (now (out .entry)) ⌝ }
+pub extern "C" fn balladsky_close(climate: &[u8], block: &[u8], area: &[u8], out: &mut [u32; OUT])
+    ensures { λ _. ⌜ now (out .exit) ≡ writtenOver (recordedOut (sheetRecorded (now (climate .entry)) (now (block .entry)) (now (area .entry)) Close)) (now (out .entry)) ⌝ }
 {
-    put_entry(sheet, area, Entry::Close, out);
+    put_entry(climate, block, area, Entry::Close, out);
 }
 
 // The season's loss, and the four stages'. Refusals 1 to 9, 17 and 10.
 #[no_mangle]
-pub extern "C" fn balladsky_loss(sheet: &[u8], area: &[u8], ky: u32, out: &mut [u32; OUT])
-    ensures { λ _. ⌜ now (out .exit) ≡ writtenOver (lossNumbers (sheetLost (now (sheet .entry)) (now (area .entry)) ky)) (now (out .entry)) ⌝ }
+pub extern "C" fn balladsky_loss(
+    climate: &[u8],
+    block: &[u8],
+    area: &[u8],
+    ky: u32,
+    out: &mut [u32; OUT],
+)
+    ensures { λ _. ⌜ now (out .exit) ≡ writtenOver (lossNumbers (sheetLost (now (climate .entry)) (now (block .entry)) (now (area .entry)) ky)) (now (out .entry)) ⌝ }
 {
-    match controller::loss(sheet, area, ky) {
+    match controller::loss(climate, block, area, ky) {
         Lost::Parts(p) => put_losses(out, p),
         Lost::Refused(number, value) => put_refusal(out, number, value),
     }
@@ -247,20 +292,22 @@ pub extern "C" fn balladsky_loss(sheet: &[u8], area: &[u8], ky: u32, out: &mut [
 // Waterings, net, gross; a depth for each remaining day in the lent buffer. Refusals 1 to 11, 15 and 16.
 #[no_mangle]
 pub extern "C" fn balladsky_plan(
-    sheet: &[u8],
+    climate: &[u8],
+    block: &[u8],
     area: &[u8],
     depths: &mut [u32],
     out: &mut [u32; OUT],
 )
-    ensures { λ _. ⌜ (now (out .exit), now (depths .exit)) ≡ plannedOver (now (out .entry)) (sheetPlanned (now (sheet .entry)) (now (area .entry)) (now (depths .entry))) ⌝ }
+    ensures { λ _. ⌜ (now (out .exit), now (depths .exit)) ≡ plannedOver (now (out .entry)) (sheetPlanned (now (climate .entry)) (now (block .entry)) (now (area .entry)) (now (depths .entry))) ⌝ }
 {
-    put_planned(out, controller::plan(sheet, area, depths));
+    put_planned(out, controller::plan(climate, block, area, depths));
 }
 
 // The ledger's depletion and the measured one, by each probe's kind and value and a field capacity in ten-thousandths. Refusals 1 to 11, 18 and 19.
 #[no_mangle]
 pub extern "C" fn balladsky_probe(
-    sheet: &[u8],
+    climate: &[u8],
+    block: &[u8],
     area: &[u8],
     shallowkind: u32,
     shallow: f32,
@@ -269,11 +316,11 @@ pub extern "C" fn balladsky_probe(
     capacity: u32,
     out: &mut [u32; OUT],
 )
-    ensures { λ _. ⌜ now (out .exit) ≡ writtenOver (probedNumbers (sheetProbed (now (sheet .entry)) (now (area .entry)) (probeOf shallowkind shallow) (probeOf deepkind deep) capacity)) (now (out .entry)) ⌝ }
+    ensures { λ _. ⌜ now (out .exit) ≡ writtenOver (probedNumbers (sheetProbed (now (climate .entry)) (now (block .entry)) (now (area .entry)) (probeOf shallowkind shallow) (probeOf deepkind deep) capacity)) (now (out .entry)) ⌝ }
 {
     let above = probe_of(shallowkind, shallow);
     let below = probe_of(deepkind, deep);
-    match controller::probe(sheet, area, above, below, capacity) {
+    match controller::probe(climate, block, area, above, below, capacity) {
         Probed::Depletions(ledger, measured) => put_depletions(out, ledger, measured),
         Probed::Refused(number, value) => put_refusal(out, number, value),
     }
@@ -281,20 +328,38 @@ pub extern "C" fn balladsky_probe(
 
 // Rows; six numbers a row in the lent buffer. Refusals 1 to 7, and 15.
 #[no_mangle]
-pub extern "C" fn balladsky_table(sheet: &[u8], rows: &mut [u32], out: &mut [u32; OUT])
-    ensures { λ _. ⌜ (now (out .exit), now (rows .exit)) ≡ tabledOver (now (out .entry)) (sheetTabled (now (sheet .entry)) (now (rows .entry))) ⌝ }
+pub extern "C" fn balladsky_table(
+    climate: &[u8],
+    block: &[u8],
+    rows: &mut [u32],
+    out: &mut [u32; OUT],
+)
+    ensures { λ _. ⌜ (now (out .exit), now (rows .exit)) ≡ tabledOver (now (out .entry)) (sheetTabled (now (climate .entry)) (now (block .entry)) (now (rows .entry))) ⌝ }
 {
-    match controller::table(sheet, rows) {
+    match controller::table(climate, block, rows) {
         Tabled::Rows(count) => put_size(out, count),
         Tabled::Refused(number, value) => put_refusal(out, number, value),
     }
 }
 
-// Bytes; the sheet in the lent buffer. Refusals 4 to 7, and 15.
+// Bytes; the climate sheet in the lent buffer. Refusals 4 and 15.
 #[no_mangle]
-pub extern "C" fn balladsky_write(fields: &[u32; 41], sheet: &mut [u8], out: &mut [u32; OUT])
-    ensures { λ _. ⌜ (now (out .exit), now (sheet .exit)) ≡ sheetOver (now (out .entry)) (sheetWritten (now (fields .entry)) (now (sheet .entry))) ⌝ }
+pub extern "C" fn balladsky_write_climate(
+    fields: &[u32; 24],
+    climate: &mut [u8],
+    out: &mut [u32; OUT],
+)
+    ensures { λ _. ⌜ (now (out .exit), now (climate .exit)) ≡ sheetOver (now (out .entry)) (climateWritten (now (fields .entry)) (now (climate .entry))) ⌝ }
 {
     let own = *fields;
-    put_sheet(own, sheet, out);
+    put_climate(own, climate, out);
+}
+
+// Bytes; the block sheet in the lent buffer. Refusals 4 to 7, and 15.
+#[no_mangle]
+pub extern "C" fn balladsky_write_block(fields: &[u32; 17], block: &mut [u8], out: &mut [u32; OUT])
+    ensures { λ _. ⌜ (now (out .exit), now (block .exit)) ≡ sheetOver (now (out .entry)) (blockWritten (now (fields .entry)) (now (block .entry))) ⌝ }
+{
+    let own = *fields;
+    put_block(own, block, out);
 }

@@ -32,7 +32,7 @@ put-refusal-requires : tie.Need-put-refusal-requires
 put-refusal-requires c κs =
     let at-number = c .before .before in
     let at-probe = at-number .before .before in
-    holds-by (at-number .number .given .1) (at-probe .probe .ensures) SmallProbed (probed-small _ _ _ _ _)
+    holds-by (at-number .number .given .1) (at-probe .probe .ensures) SmallProbed (probed-small _ _ _ _ _ _)
 
 returns : tie.Need-returns
 returns c =
@@ -40,9 +40,9 @@ returns c =
     let at-probe = at-ledger .before .before in
     let at-probe-of2 = at-probe .before in
     let at-probe-of = at-probe-of2 .before in
-    let a = at-probe-of .before .before .before .args in
+    let a = at-probe-of .before .before .before .before .args in
     written-by (at-ledger .ledger .given .1)
-    (at-probe .probe .ensures ∙ ap₂ (λ (p q : Probe). sheetProbed (now (a .sheet)) (now (a .area)) p q (a .capacity)) (at-probe-of .probe-of .ensures) (at-probe-of2 .probe-of2 .ensures))
+    (at-probe .probe .ensures ∙ ap₂ (λ (p q : Probe). sheetProbed (now (a .climate)) (now (a .block)) (now (a .area)) p q (a .capacity)) (at-probe-of .probe-of .ensures) (at-probe-of2 .probe-of2 .ensures))
     probedNumbers _ (c .put-depletions .ensures)
 
 returns-2 : tie.Need-returns-2
@@ -51,9 +51,9 @@ returns-2 c =
     let at-probe = at-number .before .before in
     let at-probe-of2 = at-probe .before in
     let at-probe-of = at-probe-of2 .before in
-    let a = at-probe-of .before .before .before .args in
+    let a = at-probe-of .before .before .before .before .args in
     written-by (at-number .number .given .1)
-    (at-probe .probe .ensures ∙ ap₂ (λ (p q : Probe). sheetProbed (now (a .sheet)) (now (a .area)) p q (a .capacity)) (at-probe-of .probe-of .ensures) (at-probe-of2 .probe-of2 .ensures))
+    (at-probe .probe .ensures ∙ ap₂ (λ (p q : Probe). sheetProbed (now (a .climate)) (now (a .block)) (now (a .area)) p q (a .capacity)) (at-probe-of .probe-of .ensures) (at-probe-of2 .probe-of2 .ensures))
     probedNumbers _ (c .put-refusal .ensures)
 
 pub balladsky-probe-spec : {M : Type 1} → statement M

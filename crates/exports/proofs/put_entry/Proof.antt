@@ -20,22 +20,22 @@ put-stores-requires : tie.Need-put-stores-requires
 put-stores-requires c κs =
     let at-enum-told = c .before in
     let at-record = at-enum-told .before .before .before .before in
-    let small = holds-by (entry-case _ (at-enum-told .enum-told .given .1)) (at-record .«record» .ensures) SmallRecorded (recorded-small _ _ _) in (small .start, small .count)
+    let small = holds-by (entry-case _ (at-enum-told .enum-told .given .1)) (at-record .«record» .ensures) SmallRecorded (recorded-small _ _ _ _) in (small .start, small .count)
 
 put-refusal-requires : tie.Need-put-refusal-requires
 put-refusal-requires c κs =
     let at-verdict = c .before .before in
     let at-record = at-verdict .before .before .before .before in
-    holds-by (entry-case _ (at-verdict .verdict .given .1)) (at-record .«record» .ensures) SmallRecorded (recorded-small _ _ _) .verdict
+    holds-by (entry-case _ (at-verdict .verdict .given .1)) (at-record .«record» .ensures) SmallRecorded (recorded-small _ _ _ _) .verdict
 
 returns : tie.Need-returns
 returns c =
     let at-enum-told = c .before .before in
     let at-record = at-enum-told .before .before .before .before in
-    let start = at-record .before .before .before in
+    let start = at-record .before .before .before .before in
     let w = at-record .«record» .result .stores in
     let case = entry-case _ (at-enum-told .enum-told .given .1) in
-    let size = holds-by case (at-record .«record» .ensures) RecordedOccurs (claims .recorded-occurs _ _ _) .size in
+    let size = holds-by case (at-record .«record» .ensures) RecordedOccurs (claims .recorded-occurs _ _ _ _) .size in
     written-by case (at-record .«record» .ensures) recordedOut _
     (c .put-stores .ensures ∙ ap (λ (bs : List ℕ). writtenOver (0 ∷ 0 ∷ w .start ∷ w .count ∷ bs) (now (start .args .out))) (four-are (w .bytes) size))
 
