@@ -41,12 +41,12 @@ fn with_verdict(b: Book, same: bool) -> Book {
     book_of(b.count, b.loose, bytes, b.same && same)
 }
 
-fn recorded(sheet: &[u8], area: &[u8], call: u32) -> Recorded {
+fn recorded(climate: &[u8], block: &[u8], area: &[u8], call: u32) -> Recorded {
     let amount = model::amount_of(call);
     match model::kind_of(call) {
-        model::RAIN => controller::rain(sheet, area, amount),
-        model::IRRIGATION => controller::irrigation(sheet, area, amount),
-        _ => controller::close(sheet, area),
+        model::RAIN => controller::rain(climate, block, area, amount),
+        model::IRRIGATION => controller::irrigation(climate, block, area, amount),
+        _ => controller::close(climate, block, area),
     }
 }
 
@@ -63,19 +63,20 @@ fn entered(entries: &mut [u32], b: Book, call: u32, w: EntryBytes, done: usize) 
 
 // Rain, irrigation or close, of whose stores so many are done.
 fn record(
-    sheet: &[u8],
-    block: Block,
+    climate: &[u8],
+    block: &[u8],
+    numbers: Block,
     area: &mut [u8],
     entries: &mut [u32],
     b: Book,
     call: u32,
     done: usize,
 ) -> Book {
-    let t = model::worked(block, entries, b.count);
+    let t = model::worked(numbers, entries, b.count);
     let size = area.len() as u64;
-    let expected = model::refusal(block, t, b.loose, size, call);
+    let expected = model::refusal(numbers, t, b.loose, size, call);
     let w = model::written(model::kind_of(call), model::number_of(t, call));
-    let r = recorded(sheet, area, call);
+    let r = recorded(climate, block, area, call);
     let next = with_verdict(b, compare::same_record(r, t, expected, w));
     if expected != 0 {
         return next;
@@ -96,15 +97,16 @@ fn wiped(b: Book, done: usize) -> Book {
 
 // Open, of whose stores so many are done.
 fn open(
-    sheet: &[u8],
-    block: Block,
+    climate: &[u8],
+    block: &[u8],
+    numbers: Block,
     area: &mut [u8],
     entries: &[u32],
     b: Book,
     done: usize,
 ) -> Book {
-    let t = model::worked(block, entries, b.count);
-    let r = controller::open(sheet, area);
+    let t = model::worked(numbers, entries, b.count);
+    let r = controller::open(climate, block, area);
     let bytes = b.bytes;
     let next = with_verdict(b, compare::same_opening(r, t, bytes, b.loose));
     trial::store_opening(area, r, done);
@@ -117,19 +119,32 @@ const KY: u32 = 125;
 const NO_KY: u32 = 0;
 
 // The opening and the losses after a call; no store is done.
-fn opened(sheet: &[u8], block: Block, area: &[u8], entries: &[u32], b: Book) -> Book {
-    let t = model::worked(block, entries, b.count);
+fn opened(
+    climate: &[u8],
+    block: &[u8],
+    numbers: Block,
+    area: &[u8],
+    entries: &[u32],
+    b: Book,
+) -> Book {
+    let t = model::worked(numbers, entries, b.count);
     let bytes = b.bytes;
-    let same = compare::same_opening(controller::open(sheet, area), t, bytes, b.loose)
-        && compare::same_loss(controller::loss(sheet, area, KY), t, b.loose, KY)
-        && compare::same_loss(controller::loss(sheet, area, NO_KY), t, b.loose, NO_KY);
+    let same = compare::same_opening(controller::open(climate, block, area), t, bytes, b.loose)
+        && compare::same_loss(controller::loss(climate, block, area, KY), t, b.loose, KY)
+        && compare::same_loss(
+            controller::loss(climate, block, area, NO_KY),
+            t,
+            b.loose,
+            NO_KY,
+        );
     with_verdict(b, same)
 }
 
 // A call with so many stores done, and the opening and the losses after it.
 fn step(
-    sheet: &[u8],
-    block: Block,
+    climate: &[u8],
+    block: &[u8],
+    numbers: Block,
     area: &mut [u8],
     entries: &mut [u32],
     b: Book,
@@ -137,17 +152,18 @@ fn step(
     done: usize,
 ) -> Book {
     if model::kind_of(call) == model::OPEN {
-        let next = open(sheet, block, area, entries, b, done);
-        return opened(sheet, block, area, entries, next);
+        let next = open(climate, block, numbers, area, entries, b, done);
+        return opened(climate, block, numbers, area, entries, next);
     }
-    let next = record(sheet, block, area, entries, b, call, done);
-    opened(sheet, block, area, entries, next)
+    let next = record(climate, block, numbers, area, entries, b, call, done);
+    opened(climate, block, numbers, area, entries, next)
 }
 
 // After the cut call: an opening whose stores are cut too, and a whole one.
 fn recover(
-    sheet: &[u8],
-    block: Block,
+    climate: &[u8],
+    block: &[u8],
+    numbers: Block,
     area: &mut [u8],
     entries: &mut [u32],
     b: Book,
@@ -160,8 +176,17 @@ fn recover(
     if reopened == 4 {
         return b;
     }
-    let next = step(sheet, block, area, entries, b, model::OPEN, reopened);
-    step(sheet, block, area, entries, next, model::OPEN, 4)
+    let next = step(
+        climate,
+        block,
+        numbers,
+        area,
+        entries,
+        b,
+        model::OPEN,
+        reopened,
+    );
+    step(climate, block, numbers, area, entries, next, model::OPEN, 4)
 }
 
 fn stores_done(here: bool, cut: Cut) -> usize {
@@ -170,8 +195,9 @@ fn stores_done(here: bool, cut: Cut) -> usize {
 
 // A history with one cut, on a blank area: whether all answers are the model's.
 fn play(
-    sheet: &[u8],
-    block: Block,
+    climate: &[u8],
+    block: &[u8],
+    numbers: Block,
     area: &mut [u8],
     entries: &mut [u32],
     history: &[u32],
@@ -188,8 +214,26 @@ fn play(
         let next = i + 1;
         let here = i == cut.call;
         let call = history[i];
-        b = step(sheet, block, area, entries, b, call, stores_done(here, cut));
-        b = recover(sheet, block, area, entries, b, here, cut.reopened);
+        b = step(
+            climate,
+            block,
+            numbers,
+            area,
+            entries,
+            b,
+            call,
+            stores_done(here, cut),
+        );
+        b = recover(
+            climate,
+            block,
+            numbers,
+            area,
+            entries,
+            b,
+            here,
+            cut.reopened,
+        );
         i = next;
     }
     b.same
@@ -209,15 +253,37 @@ fn no_calls() -> [u32; 136]
 }
 
 // The same on an area of so many bytes.
-fn play_on(sheet: &[u8], block: Block, size: isize, history: &[u32], cut: Cut) -> bool {
+fn play_on(
+    climate: &[u8],
+    block: &[u8],
+    numbers: Block,
+    size: isize,
+    history: &[u32],
+    cut: Cut,
+) -> bool {
     let mut area = blank();
     let mut entries = no_calls();
     let n = io::count(size, &area);
-    play(sheet, block, &mut area[..n], &mut entries, history, cut)
+    play(
+        climate,
+        block,
+        numbers,
+        &mut area[..n],
+        &mut entries,
+        history,
+        cut,
+    )
 }
 
 // Every cut of a call: after 0 to 3 of its stores, and then no opening's stores done, or an opening cut after 0 to 3 of its own.
-fn cut_call(sheet: &[u8], block: Block, size: isize, history: &[u32], call: usize) -> bool {
+fn cut_call(
+    climate: &[u8],
+    block: &[u8],
+    numbers: Block,
+    size: isize,
+    history: &[u32],
+    call: usize,
+) -> bool {
     let mut k: usize = 0;
     while k < 20 {
         let cut = Cut {
@@ -225,7 +291,7 @@ fn cut_call(sheet: &[u8], block: Block, size: isize, history: &[u32], call: usiz
             done: k / 5,
             reopened: k % 5,
         };
-        if !play_on(sheet, block, size, history, cut) {
+        if !play_on(climate, block, numbers, size, history, cut) {
             print_cut(cut);
             return false;
         }
@@ -245,11 +311,17 @@ fn print_cut(cut: Cut) {
 }
 
 // Cuts every call of a history; how many calls were cut, or 0 at the first difference.
-pub fn cut_calls(sheet: &[u8], block: Block, size: isize, history: &[u32]) -> u64 {
+pub fn cut_calls(
+    climate: &[u8],
+    block: &[u8],
+    numbers: Block,
+    size: isize,
+    history: &[u32],
+) -> u64 {
     let mut i: usize = 0;
     let mut count: u64 = 0;
     while i < history.len() {
-        if !cut_call(sheet, block, size, history, i) {
+        if !cut_call(climate, block, numbers, size, history, i) {
             return 0;
         }
         count = saturating_add(count, 1);

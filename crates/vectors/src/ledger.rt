@@ -19,11 +19,18 @@ fn add(balance: &mut [u32], at: usize, n: u32) {
     put(balance, at, next);
 }
 
-// Closes a day by the rule alone, with a need, rain and irrigation of its own, total and ready water the sheet's.
+// Closes a day by the rule alone, with a need, rain and irrigation of its own, total and ready water the sheets'.
 // A balance is: days closed, depletion, used, percolated, rain, irrigation.
-pub fn close_day(sheet: &[u8], balance: &mut [u32], need: u32, rain: u32, irrigation: u32) {
+pub fn close_day(
+    climate: &[u8],
+    block: &[u8],
+    balance: &mut [u32],
+    need: u32,
+    rain: u32,
+    irrigation: u32,
+) {
     add(balance, 0, 1);
-    let t = sheets::day_numbers(sheet, get(balance, 0));
+    let t = sheets::day_numbers(climate, block, get(balance, 0));
     let done = rules::close(
         get(balance, 1),
         sum(rain, irrigation),
@@ -45,32 +52,32 @@ fn add_totals(balance: &mut [u32], used: u32, percolated: u32, rain: u32, irriga
 // No call hands back more stores.
 const ALL: usize = 4;
 
-fn enter_rain(sheet: &[u8], area: &mut [u8], amount: u32) {
+fn enter_rain(climate: &[u8], block: &[u8], area: &mut [u8], amount: u32) {
     if amount == 0 {
         return;
     }
-    let r = controller::rain(sheet, area, amount);
+    let r = controller::rain(climate, block, area, amount);
     trial::store(area, r, ALL);
 }
 
-fn enter_irrigation(sheet: &[u8], area: &mut [u8], amount: u32) {
+fn enter_irrigation(climate: &[u8], block: &[u8], area: &mut [u8], amount: u32) {
     if amount == 0 {
         return;
     }
-    let r = controller::irrigation(sheet, area, amount);
+    let r = controller::irrigation(climate, block, area, amount);
     trial::store(area, r, ALL);
 }
 
-fn enter_close(sheet: &[u8], area: &mut [u8]) {
-    let r = controller::close(sheet, area);
+fn enter_close(climate: &[u8], block: &[u8], area: &mut [u8]) {
+    let r = controller::close(climate, block, area);
     trial::store(area, r, ALL);
 }
 
 // A day by the calls: rain and irrigation where there is any, and the close.
-pub fn record_day(sheet: &[u8], area: &mut [u8], rain: u32, irrigation: u32) {
-    enter_rain(sheet, area, rain);
-    enter_irrigation(sheet, area, irrigation);
-    enter_close(sheet, area);
+pub fn record_day(climate: &[u8], block: &[u8], area: &mut [u8], rain: u32, irrigation: u32) {
+    enter_rain(climate, block, area, rain);
+    enter_irrigation(climate, block, area, irrigation);
+    enter_close(climate, block, area);
 }
 
 fn stage_number(p: Stages, which: u32) -> u64 {
@@ -110,8 +117,8 @@ fn ledger_number(l: Ledger, which: u32) -> u64 {
 // A number of what opening answers: 1 open day, 2 depletion, 3 and 4 waiting rain and irrigation, 5 and 6 season rain
 // and irrigation, 7 use, 8 percolation, 9 the place, 10 the season's need, 11 to 18 need and use of the four stages. 0
 // where the journal is not clean.
-fn opened(sheet: &[u8], area: &[u8], which: u32) -> u64 {
-    let r = controller::open(sheet, area);
+fn opened(climate: &[u8], block: &[u8], area: &[u8], which: u32) -> u64 {
+    let r = controller::open(climate, block, area);
     let o = r.opening;
     match o {
         Opening::Clean(l) => ledger_number(l, which),
@@ -133,17 +140,17 @@ fn loss_number(p: Losses, which: u32) -> u64 {
 
 // A number of what loss answers: 19 whether it refuses, 20 the season's, 21 to 24 the stages'. Where it refuses, all are
 // the refusal's number × 1000 and the number returned with it.
-fn loss_by(sheet: &[u8], area: &[u8], which: u32, ky: u32) -> u64 {
-    match controller::loss(sheet, area, ky) {
+fn loss_by(climate: &[u8], block: &[u8], area: &[u8], which: u32, ky: u32) -> u64 {
+    match controller::loss(climate, block, area, ky) {
         Lost::Parts(p) => loss_number(p, which),
         Lost::Refused(number, value) => sheets::refusal_code(number, value),
     }
 }
 
 // A number of the opening, up to 18, or of the loss by a Ky.
-pub fn number_of(sheet: &[u8], area: &[u8], which: u32, ky: u32) -> u64 {
+pub fn number_of(climate: &[u8], block: &[u8], area: &[u8], which: u32, ky: u32) -> u64 {
     if which < 19 {
-        return opened(sheet, area, which);
+        return opened(climate, block, area, which);
     }
-    loss_by(sheet, area, which, ky)
+    loss_by(climate, block, area, which, ky)
 }

@@ -5,9 +5,10 @@
 // are themselves rounded), the reason why it differs (0: it agrees), the deviation, the inputs; a label behind ';'. The
 // deviation is how far the printed figure is from what document 01's rule gives, by a separate reading of it; 0 where
 // there is no reason. A figure with a reason must be off by more than the tolerance and by at most the deviation.
-// A line that starts with '=' is the sheet that stands for the lines behind it, its forty numbers, and then up to four
-// bytes that its journal starts with; one that starts with '+' is a day; one that starts with '#' says where the figures
-// are printed. February has 28 days there, and no forty-first number is written, unless a figure's inputs set field 41.
+// A line that starts with '=' has the sheets that stand for the lines behind it, the forty numbers of a climate sheet and
+// a block sheet by their fields, and then up to four bytes that the journal starts with; one that starts with '+' is a
+// day; one that starts with '#' says where the figures are printed. February has 28 days there, and no forty-first number
+// is written, unless a figure's inputs set field 41.
 mod ledger;
 mod probing;
 mod rules;
@@ -160,22 +161,18 @@ fn starts_with(line: &[u8], b: u8) -> bool {
     trial::get_byte(line, 0) == b
 }
 
-fn byte(n: u32) -> u8 {
-    if n < 256 { n as u8 } else { 255 }
-}
-
-// The journal that a sheet's line asks for: blank but for the bytes that stand there.
+// The journal that a line of sheets asks for: blank but for the bytes that stand there.
 fn lay_journal(line: &[u8], area: &mut [u8; 1024]) {
     let mut numbers = [255u32; 44];
     text::read_numbers(line, &mut numbers);
     *area = [255; 1024];
-    put_byte(area, 0, byte(get(&numbers, 40)));
-    put_byte(area, 1, byte(get(&numbers, 41)));
-    put_byte(area, 2, byte(get(&numbers, 42)));
-    put_byte(area, 3, byte(get(&numbers, 43)));
+    put_byte(area, 0, text::byte(get(&numbers, 40)));
+    put_byte(area, 1, text::byte(get(&numbers, 41)));
+    put_byte(area, 2, text::byte(get(&numbers, 42)));
+    put_byte(area, 3, text::byte(get(&numbers, 43)));
 }
 
-// A line that starts with '=' is a new sheet, on which no day is closed.
+// A line that starts with '=' has new sheets, on which no day is closed.
 fn run_line(
     line: &[u8],
     rule: u32,
@@ -278,9 +275,11 @@ fn run_exact_rules(before: Tally) -> Tally {
         .run_again(
             b"rule_refusals",
             rules::WRITE,
-            b"rule_refusals, of the writer",
+            b"rule_refusals, of the writers",
         )
-        .run(b"rule_writing", rules::ROOM)
+        .run(b"rule_bytes", rules::BYTES)
+        .run(b"rule_climate_writing", rules::CLIMATE)
+        .run(b"rule_block_writing", rules::BLOCK)
         .run(b"rule_dates", rules::DATE)
         .run(b"rule_journal", rules::JOURNAL)
         .run(b"rule_losses", rules::JOURNAL)
@@ -290,7 +289,8 @@ fn run_exact_rules(before: Tally) -> Tally {
 // Document 01's rules by a separate reading of them: whole seasons.
 fn run_exact_seasons(before: Tally) -> Tally {
     before
-        .run(b"season_sheets", rules::SHEET)
+        .run(b"season_climates", rules::CLIMATE)
+        .run(b"season_blocks", rules::BLOCK)
         .run(b"season_rows", rules::ROWS)
         .run(b"season_tables", rules::CELL)
         .run(b"season_plans", rules::PLAN)
@@ -306,7 +306,7 @@ fn main() {
     let bounded = run_bounded(none);
     bounded.print(b"printed, within bounds set from the deviations seen");
     let sheets = none.run(b"refusals", rules::REFUSAL)
-        .run_again(b"refusals", rules::WRITE, b"refusals, of the writer")
+        .run_again(b"refusals", rules::WRITE, b"refusals, of the writers")
         .run(b"ky", rules::JOURNAL);
     sheets.print(b"printed sheets and Ky, accepted or refused by the documents' rules");
     let exact = run_exact_seasons(run_exact_rules(none));

@@ -38,10 +38,10 @@ pub fn reading(numbers: &[u32]) -> u64 {
 
 // A number of what probe answers: 0 whether it refuses, 1 the ledger's depletion, 2 the measured one. Where it refuses,
 // all are the refusal's number × 1000 and the number returned with it.
-pub fn number_of(sheet: &[u8], area: &[u8], numbers: &[u32]) -> u64 {
+pub fn number_of(climate: &[u8], block: &[u8], area: &[u8], numbers: &[u32]) -> u64 {
     let shallow = probe_of(get(numbers, 5), get(numbers, 6), get(numbers, 7));
     let deep = probe_of(get(numbers, 8), get(numbers, 9), get(numbers, 10));
-    match controller::probe(sheet, area, shallow, deep, get(numbers, 11)) {
+    match controller::probe(climate, block, area, shallow, deep, get(numbers, 11)) {
         Probed::Depletions(ledger, measured) => depletion(get(numbers, 4), ledger, measured),
         Probed::Refused(number, value) => sheets::refusal_code(number, value),
     }

@@ -1,9 +1,10 @@
 // What the product answers for a line of numbers. Its first four are the printed figure, the tolerance, the reason and
 // the deviation; inputs follow. Where a rule asks about a season, two numbers follow (a day, or a row and a column) and
-// then places of the sheet with their values.
+// then fields of the sheets with their values.
 use crate::ledger;
 use crate::probing;
 use crate::sheets;
+use crate::text;
 use crate::writing;
 use season::DayClose;
 use season::Net;
@@ -23,7 +24,7 @@ pub const NET: u32 = 3;
 // Crop use, by depletion, need, total and ready water.
 pub const USE: u32 = 4;
 
-// What a sheet answers: 0, or the refusal's number × 1000 and the number returned with it.
+// What a climate sheet and a block sheet answer: 0, or the refusal's number × 1000 and the number returned with it.
 pub const REFUSAL: u32 = 5;
 
 // n.
@@ -68,14 +69,14 @@ pub const PLAN: u32 = 18;
 // The plan's depth on a day.
 pub const DEPTH: u32 = 19;
 
-// A byte of the sheet that the writer makes, or its length.
-pub const SHEET: u32 = 20;
+// What the climate's writer answers in a buffer of so many bytes, or a byte of that buffer.
+pub const CLIMATE: u32 = 20;
 
-// What the writer answers: 0, or the refusal's number × 1000 and the number returned with it.
-pub const WRITE: u32 = 21;
+// The same of the block's writer.
+pub const BLOCK: u32 = 21;
 
-// What the writer answers in a buffer of so many bytes, or a byte of that buffer.
-pub const ROOM: u32 = 22;
+// What both writers answer: 0, or the climate's refusal, else the block's.
+pub const WRITE: u32 = 22;
 
 // Yield lost, by Ky, need and use.
 pub const LOSS: u32 = 23;
@@ -83,14 +84,17 @@ pub const LOSS: u32 = 23;
 // What two probes say, by their kinds and bits.
 pub const CONTENT: u32 = 24;
 
+// What two sheets answer, given by their bytes.
+pub const BYTES: u32 = 25;
+
 // A number of the days closed by the rule.
-pub const BALANCE: u32 = 25;
+pub const BALANCE: u32 = 26;
 
 // A byte of the journal that the calls wrote, or a number of its opening or of its loss.
-pub const JOURNAL: u32 = 26;
+pub const JOURNAL: u32 = 27;
 
 // A number of what the probes mean beside that journal, by their kinds and bits and a field capacity.
-pub const PROBE: u32 = 27;
+pub const PROBE: u32 = 28;
 
 // Effective rain.
 fn rain(q: u32) -> u64 {
@@ -164,7 +168,7 @@ fn percent(part: u32, total: u32) -> u64 {
     part as u64 * 10000 / total as u64
 }
 
-// Sets places of a sheet, by the pairs behind a line's first six numbers: a field, counted from 1, and its value.
+// Sets fields of the sheets, by the pairs behind a line's first six numbers: a field, counted from 1, and its value.
 pub fn set_fields(fields: &mut [u32], numbers: &[u32]) {
     let mut pair: usize = 0;
     while pair < 45 {
@@ -183,67 +187,63 @@ fn set_field(fields: &mut [u32], field: u32, value: u32) {
     }
 }
 
-// A byte of the sheet that the writer makes; or its length, where `whole` is 1.
-fn written(fields: [u32; 41], at: u32, whole: u32) -> u64 {
-    if whole == 1 {
-        return writing::in_room(fields, 124, 0);
-    }
-    if at < 124 {
-        writing::in_room(fields, 124, at + 1)
-    } else {
-        0
-    }
-}
-
-fn signed(k: usize) -> isize {
-    if k < 1000000 { k as isize } else { 0 }
-}
-
-// A figure of a season, from its sheet.
-fn of_sheet(rule: u32, sheet: &[u8], a: u32, b: u32) -> u64 {
+// A figure of a season, from its sheets.
+fn of_sheets(rule: u32, climate: &[u8], block: &[u8], a: u32, b: u32) -> u64 {
     match rule {
-        REFUSAL => sheets::refusal(sheet),
-        LENGTH => sheets::day_numbers(sheet, 1).days as u64,
-        KC => sheets::day_numbers(sheet, a).kc,
-        NEED => rounded(sheets::day_numbers(sheet, a).need, b),
-        TOTAL => sheets::day_numbers(sheet, a).total as u64,
-        READY => sheets::day_numbers(sheet, a).ready as u64,
-        DATE => sheets::day_numbers(sheet, a).date,
-        HELD => sheets::days_held(sheet),
-        CELL => sheets::cell(sheet, a, b) as u64,
-        SUM => sheets::column_sum(sheet, a),
-        ROWS => sheets::rows(sheet) as u64,
-        MEAN_KC => sheets::mean_kc(sheet, a, b),
-        PERCENT => percent(b, sheets::day_numbers(sheet, a).total),
-        PLAN => sheets::plan_number(sheet, a),
-        DEPTH => sheets::depth(sheet, a),
+        REFUSAL => sheets::refusal(climate, block),
+        LENGTH => sheets::day_numbers(climate, block, 1).days as u64,
+        KC => sheets::day_numbers(climate, block, a).kc,
+        NEED => rounded(sheets::day_numbers(climate, block, a).need, b),
+        TOTAL => sheets::day_numbers(climate, block, a).total as u64,
+        READY => sheets::day_numbers(climate, block, a).ready as u64,
+        DATE => sheets::day_numbers(climate, block, a).date,
+        HELD => sheets::days_held(climate, block),
+        CELL => sheets::cell(climate, block, a, b) as u64,
+        SUM => sheets::column_sum(climate, block, a),
+        ROWS => sheets::rows(climate, block) as u64,
+        MEAN_KC => sheets::mean_kc(climate, block, a, b),
+        PERCENT => percent(b, sheets::day_numbers(climate, block, a).total),
+        PLAN => sheets::plan_number(climate, block, a),
+        DEPTH => sheets::depth(climate, block, a),
         _ => 0,
     }
 }
 
-// The sheet that stands, with a line's own fields.
+// The numbers that stand, with a line's own fields.
 fn own_fields(fields: [u32; 41], numbers: &[u32]) -> [u32; 41] {
     let mut own = fields;
     set_fields(&mut own, numbers);
     own
 }
 
-// A figure of a season or of the writer, from the tablet's numbers.
+// A figure of a season or of the writers, from forty-one numbers.
 fn of_fields(rule: u32, own: [u32; 41], a: u32, b: u32) -> u64 {
     match rule {
-        SHEET => written(own, a, b),
+        CLIMATE => writing::climate_in_room(own, a, b),
+        BLOCK => writing::block_in_room(own, a, b),
         WRITE => writing::refusal(own),
-        ROOM => writing::in_room(own, a, b),
         _ => {
-            let mut bytes = [0u8; 124];
-            let k = sheets::write_sheet(&own, &mut bytes);
-            let n = io::count(signed(k), &bytes);
-            of_sheet(rule, &bytes[..n], a, b)
+            let mut climate = [0u8; 73];
+            let mut block = [0u8; 52];
+            let n = io::count(sheets::write_climate(own, &mut climate), &climate);
+            let m = io::count(sheets::write_block(own, &mut block), &block);
+            of_sheets(rule, &climate[..n], &block[..m], a, b)
         }
     }
 }
 
-// The product's answer, by the line's numbers and the sheet that stands.
+// What two sheets answer, of so many bytes each, which stand behind a line's first six numbers.
+fn of_bytes(numbers: &[u32], a: u32, b: u32) -> u64 {
+    let mut climate = [0u8; 73];
+    let mut block = [0u8; 52];
+    text::lay_bytes(numbers, 6, &mut climate);
+    text::lay_bytes(numbers, trial::saturating_add(6, a as u64), &mut block);
+    let n = io::count(a as isize, &climate);
+    let m = io::count(b as isize, &block);
+    sheets::refusal(&climate[..n], &block[..m])
+}
+
+// The product's answer, by the line's numbers and the sheets that stand.
 pub fn answer(rule: u32, numbers: &[u32], fields: [u32; 41]) -> u64 {
     let a = get(numbers, 4);
     let b = get(numbers, 5);
@@ -254,6 +254,7 @@ pub fn answer(rule: u32, numbers: &[u32], fields: [u32; 41]) -> u64 {
         USE => close(a, 0, b, get(numbers, 6), get(numbers, 7)).used as u64,
         LOSS => loss(a, b, get(numbers, 6)),
         CONTENT => probing::reading(numbers),
+        BYTES => of_bytes(numbers, a, b),
         _ => of_fields(rule, own_fields(fields, numbers), a, b),
     }
 }
@@ -270,21 +271,28 @@ pub fn answer_after_days(
     if rule == BALANCE {
         return get(balance, get(numbers, 4) as usize) as u64;
     }
-    let mut bytes = [0u8; 124];
-    let k = sheets::write_sheet(&fields, &mut bytes);
-    let n = io::count(signed(k), &bytes);
+    let mut climate = [0u8; 73];
+    let mut block = [0u8; 52];
+    let n = io::count(sheets::write_climate(fields, &mut climate), &climate);
+    let m = io::count(sheets::write_block(fields, &mut block), &block);
     if rule == PROBE {
-        return probing::number_of(&bytes[..n], area, numbers);
+        return probing::number_of(&climate[..n], &block[..m], area, numbers);
     }
-    of_journal(&bytes[..n], area, get(numbers, 4), get(numbers, 5))
+    of_journal(
+        &climate[..n],
+        &block[..m],
+        area,
+        get(numbers, 4),
+        get(numbers, 5),
+    )
 }
 
 // A byte of the journal, or a number of its opening or of its loss by a Ky.
-fn of_journal(sheet: &[u8], area: &[u8], which: u32, n: u32) -> u64 {
+fn of_journal(climate: &[u8], block: &[u8], area: &[u8], which: u32, n: u32) -> u64 {
     if which == 0 {
         return get_byte(area, n as usize) as u64;
     }
-    ledger::number_of(sheet, area, which, n)
+    ledger::number_of(climate, block, area, which, n)
 }
 
 // A day's line: need, rain and irrigation for the balance; rain and irrigation for the journal.
@@ -295,14 +303,15 @@ pub fn run_day(
     balance: &mut [u32],
     area: &mut [u8],
 ) {
-    let mut bytes = [0u8; 124];
-    let k = sheets::write_sheet(&fields, &mut bytes);
-    let n = io::count(signed(k), &bytes);
+    let mut climate = [0u8; 73];
+    let mut block = [0u8; 52];
+    let n = io::count(sheets::write_climate(fields, &mut climate), &climate);
+    let m = io::count(sheets::write_block(fields, &mut block), &block);
     let a = get(numbers, 0);
     let b = get(numbers, 1);
     if rule == BALANCE {
-        ledger::close_day(&bytes[..n], balance, a, b, get(numbers, 2));
+        ledger::close_day(&climate[..n], &block[..m], balance, a, b, get(numbers, 2));
     } else {
-        ledger::record_day(&bytes[..n], area, a, b);
+        ledger::record_day(&climate[..n], &block[..m], area, a, b);
     }
 }

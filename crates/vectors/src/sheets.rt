@@ -1,4 +1,4 @@
-// A sheet from its numbers, and what the product says of a day of its season.
+// A climate sheet and a block sheet from a line's numbers, and what the product says of a day of their season.
 use decades::MOST_NUMBERS;
 use decades::MOST_ROWS;
 use decades::Tabled;
@@ -36,27 +36,37 @@ fn put_groups(bytes: &mut [u8], from: usize, n: u32) -> usize {
     saturating_add(from as u64, groups.count as u64) as usize
 }
 
-// How many of the tablet's numbers stand in the sheet: a February of 28 days is left out.
-fn count_in_sheet(fields: &[u32]) -> usize {
-    if get(fields, 40) == 28 { 40 } else { 41 }
-}
-
-// Writes a sheet, judged by nobody: also one that reading must refuse, which the product's writer does not make; how many
-// bytes it has.
-pub fn write_sheet(fields: &[u32], bytes: &mut [u8]) -> usize {
-    let count = count_in_sheet(fields);
-    let mut at: usize = 0;
-    let mut i: usize = 0;
-    while i < count {
+// Writes the fields from the place `first` on, up to `end`, to a place and those behind it; the place after them.
+fn put_fields(bytes: &mut [u8], from: usize, fields: &[u32], first: usize, end: usize) -> usize {
+    let mut at = from;
+    let mut i = first;
+    while i < end {
         at = put_groups(bytes, at, get(fields, i));
         i += 1;
     }
     at
 }
 
-// Refusal number × 1000 and the number returned with it, or 0 for an accepted sheet.
-pub fn refusal(sheet: &[u8]) -> u64 {
-    let read = sheet::read(sheet);
+fn signed(k: usize) -> isize {
+    if k < 1000000 { k as isize } else { 0 }
+}
+
+// Writes the climate sheet of a line's numbers, judged by nobody: also one that reading must refuse, which the product's
+// writer does not make; how many bytes it has.
+pub fn write_climate(fields: [u32; 41], bytes: &mut [u8]) -> isize {
+    signed(put_fields(bytes, 0, &fields, 9, 33))
+}
+
+// The same of the block sheet. A February of 28 days is left out.
+pub fn write_block(fields: [u32; 41], bytes: &mut [u8]) -> isize {
+    let at = put_fields(bytes, 0, &fields, 0, 9);
+    let end: usize = if fields[40] == 28 { 40 } else { 41 };
+    signed(put_fields(bytes, at, &fields, 33, end))
+}
+
+// Refusal number × 1000 and the number returned with it, or 0 for an accepted pair.
+pub fn refusal(climate: &[u8], block: &[u8]) -> u64 {
+    let read = sheet::read(climate, block);
     let verdict = read.verdict;
     match verdict {
         Verdict::Accepted => 0,
@@ -125,9 +135,9 @@ fn nothing() -> DayNumbers {
     }
 }
 
-// The same by the sheet's bytes.
-pub fn day_numbers(sheet: &[u8], day: u32) -> DayNumbers {
-    let read = sheet::read(sheet);
+// The same by the sheets' bytes.
+pub fn day_numbers(climate: &[u8], block: &[u8], day: u32) -> DayNumbers {
+    let read = sheet::read(climate, block);
     let season = read.season;
     let verdict = read.verdict;
     match verdict {
@@ -137,17 +147,17 @@ pub fn day_numbers(sheet: &[u8], day: u32) -> DayNumbers {
 }
 
 // How many rows the decade table has; its rows go to a lent buffer.
-pub fn row_count(sheet: &[u8], rows: &mut [u32]) -> usize {
-    match controller::table(sheet, rows) {
+pub fn row_count(climate: &[u8], block: &[u8], rows: &mut [u32]) -> usize {
+    match controller::table(climate, block, rows) {
         Tabled::Rows(count) => count,
         Tabled::Refused(_, _) => 0,
     }
 }
 
 // The number in a row and a column of the table, each from 1.
-pub fn cell(sheet: &[u8], row: u32, column: u32) -> u32 {
+pub fn cell(climate: &[u8], block: &[u8], row: u32, column: u32) -> u32 {
     let mut rows = [0u32; MOST_NUMBERS];
-    row_count(sheet, &mut rows);
+    row_count(climate, block, &mut rows);
     get(&rows, place(row, column))
 }
 
@@ -179,16 +189,16 @@ fn sum_of(rows: &[u32], column: u32) -> u64 {
 }
 
 // The sum of a column of the table.
-pub fn column_sum(sheet: &[u8], column: u32) -> u64 {
+pub fn column_sum(climate: &[u8], block: &[u8], column: u32) -> u64 {
     let mut rows = [0u32; MOST_NUMBERS];
-    row_count(sheet, &mut rows);
+    row_count(climate, block, &mut rows);
     sum_of(&rows, column)
 }
 
 // The days before the first that no choice holds, on a blank journal; 0 where there is none.
-pub fn days_held(sheet: &[u8]) -> u64 {
+pub fn days_held(climate: &[u8], block: &[u8]) -> u64 {
     let mut depths = [0u32; LONGEST_SEASON];
-    match controller::plan(sheet, b"", &mut depths) {
+    match controller::plan(climate, block, b"", &mut depths) {
         Planned::Made(_, _, _) => 0,
         Planned::Refused(number, day) => before(number, day),
     }
@@ -205,13 +215,13 @@ fn before(number: u32, day: usize) -> u64 {
 }
 
 // How many rows the decade table has.
-pub fn rows(sheet: &[u8]) -> usize {
+pub fn rows(climate: &[u8], block: &[u8]) -> usize {
     let mut rows = [0u32; MOST_NUMBERS];
-    row_count(sheet, &mut rows)
+    row_count(climate, block, &mut rows)
 }
 
 // The mean Kc of the days from one to another; 0 past day 999.
-pub fn mean_kc(sheet: &[u8], from: u32, to: u32) -> u64 {
+pub fn mean_kc(climate: &[u8], block: &[u8], from: u32, to: u32) -> u64 {
     if 1000 <= to {
         return 0;
     }
@@ -219,7 +229,7 @@ pub fn mean_kc(sheet: &[u8], from: u32, to: u32) -> u64 {
     let mut count: u64 = 0;
     let mut day = from;
     while day <= to {
-        sum = saturating_add(sum, day_numbers(sheet, day).kc);
+        sum = saturating_add(sum, day_numbers(climate, block, day).kc);
         count = saturating_add(count, 1);
         day += 1;
     }
@@ -232,9 +242,9 @@ fn quotient(n: u64, count: u64) -> u64 {
 
 // Of the plan on a blank journal: 1 the refusal's number × 1000 and its day, 2 the waterings, 3 the net total, 4 the
 // gross total.
-pub fn plan_number(sheet: &[u8], which: u32) -> u64 {
+pub fn plan_number(climate: &[u8], block: &[u8], which: u32) -> u64 {
     let mut depths = [0u32; LONGEST_SEASON];
-    match controller::plan(sheet, b"", &mut depths) {
+    match controller::plan(climate, block, b"", &mut depths) {
         Planned::Refused(number, day) => if which == 1 {
             refusal_code(number, day)
         } else {
@@ -250,12 +260,12 @@ pub fn plan_number(sheet: &[u8], which: u32) -> u64 {
 }
 
 // The plan's depth on a season day.
-pub fn depth(sheet: &[u8], day: u32) -> u64 {
+pub fn depth(climate: &[u8], block: &[u8], day: u32) -> u64 {
     let mut depths = [0u32; LONGEST_SEASON];
     if day < 1 {
         return 0;
     }
-    match controller::plan(sheet, b"", &mut depths) {
+    match controller::plan(climate, block, b"", &mut depths) {
         Planned::Refused(_, _) => 0,
         Planned::Made(_, _, _) => get(&depths, (day - 1) as usize) as u64,
     }

@@ -1,7 +1,9 @@
 // Lines of numbers: the data's form. A line's numbers stand before its first ';', parted by anything that is no digit;
 // its label stands behind.
 use libc::STDOUT_FILENO;
+use trial::get;
 use trial::put;
+use trial::put_byte;
 use trial::saturating_add;
 ghost use Prim.Native.Nat.{_≤_};
 ghost use lib.ListN.{length};
@@ -84,6 +86,21 @@ pub fn read_numbers(line: &[u8], numbers: &mut [u32]) {
         at += 1;
     }
     read_byte(numbers, r, b';');
+}
+
+// A number as a byte; 255 where it is none.
+pub fn byte(n: u32) -> u8 {
+    if n < 256 { n as u8 } else { 255 }
+}
+
+// Fills a buffer with the bytes that numbers from a place on give.
+pub fn lay_bytes(numbers: &[u32], from: u64, bytes: &mut [u8]) {
+    let mut i: usize = 0;
+    while i < bytes.len() {
+        let at = saturating_add(from, i as u64);
+        put_byte(bytes, i, byte(get(numbers, at as usize)));
+        i += 1;
+    }
 }
 
 pub fn print(text: &[u8]) {

@@ -5,10 +5,10 @@ use Rattle.power_cuts.proofs.cuts.cut_call.Statement.{statement}
 use Rattle.power_cuts.proofs.cuts.cut_call.Tie as tie
 
 abbrev Inv-loop : tie.InvT-loop
-Inv-loop sheet block size history call k₀ k = k ≤ 20
+Inv-loop climate block numbers size history call k₀ k = k ≤ 20
 
 abbrev μ-loop : tie.MeasureT-loop
-μ-loop sheet block size history call k₀ k = 20 - k
+μ-loop climate block numbers size history call k₀ k = 20 - k
 
 pub cut-call-spec : {M : Type 1} → statement M
 cut-call-spec =

@@ -6,10 +6,10 @@ use Rattle.power_cuts.proofs.cuts.cut_calls.Statement.{statement}
 use Rattle.power_cuts.proofs.cuts.cut_calls.Tie as tie
 
 abbrev Inv-loop : tie.InvT-loop
-Inv-loop sheet block size history i₀ count₀ i count = length history - i ≤ length history
+Inv-loop climate block numbers size history i₀ count₀ i count = length history - i ≤ length history
 
 abbrev μ-loop : tie.MeasureT-loop
-μ-loop sheet block size history i₀ count₀ i count = length history - i
+μ-loop climate block numbers size history i₀ count₀ i count = length history - i
 
 pub cut-calls-spec : {M : Type 1} → statement M
 cut-calls-spec =

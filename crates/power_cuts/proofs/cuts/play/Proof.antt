@@ -7,10 +7,10 @@ use Rattle.power_cuts.proofs.cuts.play.Statement.{statement}
 use Rattle.power_cuts.proofs.cuts.play.Tie as tie
 
 abbrev Inv-loop : tie.InvT-loop
-Inv-loop sheet block area₀ entries₀ history cut b₀ i₀ area entries b i = (i ≤ length history) × (length area ≡ length area₀) × (length entries ≡ length entries₀)
+Inv-loop climate block numbers area₀ entries₀ history cut b₀ i₀ area entries b i = (i ≤ length history) × (length area ≡ length area₀) × (length entries ≡ length entries₀)
 
 abbrev μ-loop : tie.MeasureT-loop
-μ-loop sheet block area₀ entries₀ history cut b₀ i₀ area entries b i = length history - i
+μ-loop climate block numbers area₀ entries₀ history cut b₀ i₀ area entries b i = length history - i
 
 pub play-spec : {M : Type 1} → statement M
 play-spec =

@@ -1,4 +1,4 @@
--- An accepted sheet's season is within its ranges.
+-- An accepted pair's season is within its ranges.
 use Rattle.controller.proofs.Sheets.{read-accepted-season}
 use borrow.Author.Needs.{needs}
 use Rattle.vectors.proofs.sheets.day_numbers.Statement.{statement}
@@ -8,7 +8,7 @@ season-day-requires : tie.Need-season-day-requires
 season-day-requires c κs =
     let at-enum-told = c in
     let at-read = at-enum-told .before .before .before in
-    read-accepted-season _ (at-read .read .result) (at-read .read .ensures) (at-enum-told .enum-told .given .1)
+    read-accepted-season _ _ (at-read .read .result) (at-read .read .ensures) (at-enum-told .enum-told .given .1)
 
 pub day-numbers-spec : {M : Type 1} → statement M
 day-numbers-spec =

@@ -5,10 +5,10 @@ use Rattle.vectors.proofs.sheets.mean_kc.Statement.{statement}
 use Rattle.vectors.proofs.sheets.mean_kc.Tie as tie
 
 abbrev Inv-loop : tie.InvT-loop
-Inv-loop sheet from to sum₀ count₀ day₀ sum count day = to < 1000
+Inv-loop climate block from to sum₀ count₀ day₀ sum count day = to < 1000
 
 abbrev μ-loop : tie.MeasureT-loop
-μ-loop sheet from to sum₀ count₀ day₀ sum count day = 1000 - day
+μ-loop climate block from to sum₀ count₀ day₀ sum count day = 1000 - day
 
 pub mean-kc-spec : {M : Type 1} → statement M
 mean-kc-spec =
