@@ -1,12 +1,15 @@
-/* Balladsky: the block water controller of documents 01 and 02, nine calls on bytes. C99 and C++.
+/* Balladsky: the block water controller of documents 01 and 02, ten calls on bytes. C99 and C++.
  *
  * Link target/staticlib/libexports.a (made by `rt staticlib exports`, x86-64 Linux). It needs memcpy and memset, and
  * nothing else. Every call is proved to meet a contract that fixes each number it writes; crates/exports/src/lib.rt
  * states them.
  *
  * PARAMETERS
- *   sheet, sheet_length  The season sheet, read only. Any bytes, any length. Pass the sheet's own length: a buffer
- *                        padded with FF or 00 is refused.
+ *   climate, block       The two sheets, read only, each with its length. The climate sheet has 24 numbers, fields 10
+ *                        to 33: ETo of January to December, then their rain. The block sheet has 16, fields 1 to 9
+ *                        and 34 to 40, or 17 where February has 29 days, field 41. Any climate sheet goes with any
+ *                        block sheet, and many blocks may share one. Any bytes, any length. Pass the sheet's own
+ *                        length: a buffer padded with FF or 00 is refused.
  *   area, area_length    The journal, read only: no call writes to it. Any bytes, any length; blank is every byte FF.
  *   amount               Points, hundredths of a millimetre. Any number.
  *   ky                   The yield response factor Ky, in hundredths. Any number.
@@ -16,15 +19,15 @@
  *                        content is judged. float is the four-byte IEEE type.
  *   capacity             The field capacity f, in ten-thousandths of the soil's volume: from a soil survey, or read off
  *                        the probe a day or two after a soaking rain, when drainage has stopped. It is no number of
- *                        the sheet. Any number.
+ *                        either sheet. Any number.
  *   depths, rows         A buffer that you lend, with how many numbers it has. Too few is refusal 15.
- *   fields               An array of BALLADSKY_FIELDS numbers, read only: fields 1 to 40 of the sheet, then the days
- *                        of February. Any numbers.
+ *   fields               An array of BALLADSKY_CLIMATE_FIELDS or BALLADSKY_BLOCK_FIELDS numbers, read only: those of
+ *                        the sheet in its order; of a block the days of February last. Any numbers.
  *   out                  An array of BALLADSKY_OUT numbers that you lend.
- * The lengths of `fields` and `out` are what no call can test. To write, `sheet` is a buffer of bytes that you lend:
- * too few is refusal 15.
+ * The lengths of `fields` and `out` are what no call can test. To write, `climate` and `block` are a buffer of bytes
+ * that you lend: too few is refusal 15.
  * No pointer may be null, even where its length is 0, and each must point to as many elements as its length says.
- * Buffers of 32-bit numbers are aligned as uint32_t. `out`, `depths`, `rows` and the sheet that is written must not
+ * Buffers of 32-bit numbers are aligned as uint32_t. `out`, `depths`, `rows` and a sheet that is written must not
  * overlap anything else that is passed. Nothing is kept after the call returns, so what is lent need live no longer
  * than the call.
  *
@@ -41,6 +44,9 @@
  *   place first.
  *   open: FF at the places out[21], out[22].., out[20] of them, in that order, highest place first; none where clean.
  * Until a call's stores are done, make no other call on that area but after a power cut.
+ * KEEP THE SHEETS of a journal as they were while it was blank. It holds what was entered, and each call works the
+ * ledger out from the sheets: another climate sheet gives another ledger, and nothing tells. So does another block
+ * sheet, unless its season has fewer days than are closed: then the journal is damaged.
  * RECOVERY is one call. After a cut between any two stores open finds the journal clean or torn, with the ledger of all
  * that was entered whole, which holds already; do its stores, then enter again what was cut. Its stores may be cut in
  * turn: open again, and it hands back those that are left. Until they are done the journal is torn, and every entry,
@@ -52,9 +58,9 @@
  *   Where memcpy and memset are bound lazily, the first call that uses one takes some 3 KB more, once: link with
  *   -z now, or statically, and it does not.
  *   No heap, no globals, no locks, no recursion, no system call: calls on different buffers may run at once in any
- *   number of threads, and calls that only share a sheet or an area too, while nobody stores to it. In a signal handler
- *   a call is as safe as the buffers that it is given. The code uses SSE registers (xmm): the system saves them around
- *   a signal handler, but an interrupt routine must save them itself before it makes a call.
+ *   number of threads, and calls that only share sheets or an area too, while nobody stores to them. In a signal
+ *   handler a call is as safe as the buffers that it is given. The code uses SSE registers (xmm): the system saves them
+ *   around a signal handler, but an interrupt routine must save them itself before it makes a call.
  */
 #ifndef BALLADSKY_H
 #define BALLADSKY_H
@@ -66,12 +72,14 @@
 extern "C" {
 #endif
 
-#define BALLADSKY_OUT 24     /* numbers of out */
-#define BALLADSKY_AREA 8192  /* bytes of the longest area */
-#define BALLADSKY_DEPTHS 275 /* numbers that every plan fits in */
-#define BALLADSKY_ROWS 174   /* numbers that every table fits in: 29 rows of six */
-#define BALLADSKY_SHEET 87   /* bytes that every sheet fits in */
-#define BALLADSKY_FIELDS 41  /* numbers of fields */
+#define BALLADSKY_OUT 24            /* numbers of out */
+#define BALLADSKY_AREA 8192         /* bytes of the longest area */
+#define BALLADSKY_DEPTHS 275        /* numbers that every plan fits in */
+#define BALLADSKY_ROWS 174          /* numbers that every table fits in: 29 rows of six */
+#define BALLADSKY_CLIMATE 60        /* bytes that every climate sheet fits in */
+#define BALLADSKY_BLOCK 27          /* bytes that every block sheet fits in */
+#define BALLADSKY_CLIMATE_FIELDS 24 /* numbers of a climate's fields */
+#define BALLADSKY_BLOCK_FIELDS 17   /* numbers of a block's fields, the days of February among them */
 
 /* What a probe gives: shallow_kind and deep_kind. */
 enum {
@@ -80,31 +88,35 @@ enum {
     BALLADSKY_PROBE_LOW = 2     /* its supply voltage: the battery is low */
 };
 
-/* What out[0] says. A refusal is the first that applies, read downward but for 17, of those that the call gives. In
- * brackets what out[1] then is; else it is 0. None passes 8,192.
+/* What out[0] says. A refusal is the first that applies, read downward but for 17, of those that the call gives: 1 to 4
+ * for the climate sheet, then 1 to 4 for the block sheet, then the others. In brackets what out[1] then is; else it is
+ * 0. None passes 8,192.
  *
+ * 1 to 4 are one sheet's: a length or a place is counted in that sheet, and out does not say which of the two it is. A
+ * field keeps its number: 10 to 33 are the climate's, and where fields 1 and 20 are out of range, 4 comes with 20.
  * Of 1 and 2 it is whichever comes first in the bytes: a sheet of the two bytes 80 00 is refused 2 with place 1, though
  * 1 applies too.
- * Bytes behind the fortieth number are read as a forty-first, the days of February. It must be 29, in whatever season:
- * forty numbers mean 28, and 28 there is refused 4 with 41. A start on 29 February is refused 4 with 2 where it is not
- * 29. Blank memory behind forty numbers is a number that goes on: behind a sheet of n bytes, FF is refused 1 with
- * n + 1, FF FF 1 with n + 2, three or more 2 with n + 2. 00 is the number 0, refused 4 with 41, and two or more 3 with
- * n + 1.
+ * Bytes behind the block sheet's sixteenth number are read as a seventeenth, the days of February. It must be 29, in
+ * whatever season: sixteen numbers mean 28, and 28 there is refused 4 with 41. A start on 29 February is refused 4 with
+ * 2 where it is not 29. Blank memory behind sixteen numbers is a number that goes on: behind a block sheet of n bytes,
+ * FF is refused 1 with n + 1, FF FF 1 with n + 2, three or more 2 with n + 2. 00 is the number 0, refused 4 with 41,
+ * and two or more 3 with n + 1. Behind a climate sheet of n bytes any byte is refused 3 with n.
  * 15 is given by the plan, after 11 and before 16, where depths has fewer numbers than there are days from the open day
- * to the season's last; by the table, after 7, where rows has fewer than six numbers a row; by write, after 7, where
- * the buffer has fewer bytes than the sheet.
+ * to the season's last; by the table, after 7, where rows has fewer than six numbers a row; by the writers, after 4
+ * and after 7, where the buffer has fewer bytes than the sheet.
  * 17 is given by loss, right after 9 and before 10, where ky is outside 1 to 200: with ky 0 a damaged journal is
  * refused 9, and a torn one 17.
  * 18 and 19 are given by probe, after 11. 18 looks at each content, even where the other probe's is fine, and at
  * capacity: with capacity 0 two silent probes are refused 18. */
 enum {
     BALLADSKY_ACCEPTED = 0,              /* accepted; open: the journal is clean */
-    BALLADSKY_SHEET_ENDS = 1,            /* the sheet ends before its fortieth number is whole, or within its
-                                            forty-first [the sheet's length] */
+    BALLADSKY_SHEET_ENDS = 1,            /* the climate sheet ends before its twenty-fourth number is whole, the block
+                                            sheet before its sixteenth or within its seventeenth [the sheet's length] */
     BALLADSKY_BAD_NUMBER = 2,            /* a number has a third byte of 80 or more, or a last byte 00 after others
                                             [the offending byte's place] */
-    BALLADSKY_BYTES_FOLLOW = 3,          /* bytes follow the forty-first number [the first extra byte's place] */
-    BALLADSKY_FIELD_OUT_OF_RANGE = 4,    /* a field is outside its range [the lowest such field, 1 to 41] */
+    BALLADSKY_BYTES_FOLLOW = 3,          /* bytes follow the climate sheet's twenty-fourth number, or the block sheet's
+                                            seventeenth [the first extra byte's place] */
+    BALLADSKY_FIELD_OUT_OF_RANGE = 4,    /* a field is outside its range [the sheet's lowest such field, 1 to 41] */
     BALLADSKY_SEASON_TOO_LONG = 5,       /* the season is longer than 275 days */
     BALLADSKY_ROOTS_SHRINK = 6,          /* the root depth at sowing is above the full one */
     BALLADSKY_OPENING_TOO_DRY = 7,       /* the opening depletion is above the total water of day 1 */
@@ -128,50 +140,59 @@ enum {
  * need and use on the closed days of each stage: [12] and [13] initial, [14] and [15] development, [16] and [17] mid,
  * [18] and [19] late. Then the stores that mend a torn journal: [20] how many places to set to FF, [21] to [23] three
  * places, highest first, 0 past the count; all four are 0 where it is clean. Refusals 1 to 9. */
-void balladsky_open(const uint8_t *sheet, size_t sheet_length, const uint8_t *area, size_t area_length, uint32_t *out);
+void balladsky_open(const uint8_t *climate, size_t climate_length, const uint8_t *block, size_t block_length,
+    const uint8_t *area, size_t area_length, uint32_t *out);
 
 /* Enters rain of the open day. Accepted: out[2] start, [3] count, [4] to [7] four bytes, 0 past the count. Refusals 1
  * to 14. */
-void balladsky_rain(const uint8_t *sheet, size_t sheet_length, const uint8_t *area, size_t area_length, uint32_t amount,
-    uint32_t *out);
+void balladsky_rain(const uint8_t *climate, size_t climate_length, const uint8_t *block, size_t block_length,
+    const uint8_t *area, size_t area_length, uint32_t amount, uint32_t *out);
 
 /* Enters irrigation of the open day, a net amount. As rain. Refusals 1 to 14. */
-void balladsky_irrigation(const uint8_t *sheet, size_t sheet_length, const uint8_t *area, size_t area_length,
-    uint32_t amount, uint32_t *out);
+void balladsky_irrigation(const uint8_t *climate, size_t climate_length, const uint8_t *block, size_t block_length,
+    const uint8_t *area, size_t area_length, uint32_t amount, uint32_t *out);
 
 /* Closes the open day. As rain. Refusals 1 to 11, and 14. */
-void balladsky_close(const uint8_t *sheet, size_t sheet_length, const uint8_t *area, size_t area_length, uint32_t *out);
+void balladsky_close(const uint8_t *climate, size_t climate_length, const uint8_t *block, size_t block_length,
+    const uint8_t *area, size_t area_length, uint32_t *out);
 
 /* The yield that stress on the closed days has cost, by one Ky. Accepted: out[2] the season's loss, [3] the initial
  * stage's, [4] development's, [5] mid's, [6] late's, in ten-thousandths: 100 * ky * (need - use) / need, rounded down,
  * at most 10,000, and 0 where the need is 0; need and use are the season's or the stage's that open answers. It answers
  * when all days are closed too. Refusals 1 to 9, then 17, then 10. */
-void balladsky_loss(const uint8_t *sheet, size_t sheet_length, const uint8_t *area, size_t area_length, uint32_t ky,
-    uint32_t *out);
+void balladsky_loss(const uint8_t *climate, size_t climate_length, const uint8_t *block, size_t block_length,
+    const uint8_t *area, size_t area_length, uint32_t ky, uint32_t *out);
 
 /* The depletion by the ledger and by the block's two probes. Accepted: out[2] the ledger's depletion, as open answers
  * it, [3] the measured one: (capacity - v) * Z / 10, rounded down, 0 where v is above capacity, and at most T, with the
  * open day's root depth Z in centimetres and its total water T. v is the content in ten-thousandths, rounded down from
  * the float's exact value, and of two contents the mean of both v, rounded down; -0.0 counts as 0. Waiting water plays
  * no part. It hands back no stores. Refusals 1 to 11, 18 and 19. */
-void balladsky_probe(const uint8_t *sheet, size_t sheet_length, const uint8_t *area, size_t area_length,
-    uint32_t shallow_kind, float shallow, uint32_t deep_kind, float deep, uint32_t capacity, uint32_t *out);
+void balladsky_probe(const uint8_t *climate, size_t climate_length, const uint8_t *block, size_t block_length,
+    const uint8_t *area, size_t area_length, uint32_t shallow_kind, float shallow, uint32_t deep_kind, float deep,
+    uint32_t capacity, uint32_t *out);
 
 /* Plans the waterings from the open day to the season's end. Accepted: depths[0] is the open day's net depth, depths[1]
  * the next day's, and so on; out[2] how many are above 0, [3] the net total, [4] the gross total. Refusals 1 to 11, 15
  * and 16. */
-void balladsky_plan(const uint8_t *sheet, size_t sheet_length, const uint8_t *area, size_t area_length,
-    uint32_t *depths, size_t depths_length, uint32_t *out);
+void balladsky_plan(const uint8_t *climate, size_t climate_length, const uint8_t *block, size_t block_length,
+    const uint8_t *area, size_t area_length, uint32_t *depths, size_t depths_length, uint32_t *out);
 
 /* The decade table. Accepted: rows holds six numbers a row: month, decade, need, planned rain, net, gross; out[2] how
  * many rows. Refusals 1 to 7, and 15. */
-void balladsky_table(const uint8_t *sheet, size_t sheet_length, uint32_t *rows, size_t rows_length, uint32_t *out);
+void balladsky_table(const uint8_t *climate, size_t climate_length, const uint8_t *block, size_t block_length,
+    uint32_t *rows, size_t rows_length, uint32_t *out);
 
-/* Writes a sheet: fields are its forty numbers, field 1 first, and then the days of February, 28 or 29; anything else
- * there is refused 4 with 41. 28 is left out of the sheet, 29 is its forty-first number. Accepted: the buffer begins
- * with the sheet's bytes; out[2] how many they are, which is sheet_length for the other calls. Refusals 4 to 7 as the
- * other calls give them, and 15. */
-void balladsky_write(const uint32_t *fields, uint8_t *sheet, size_t sheet_length, uint32_t *out);
+/* Writes a climate sheet: fields are its 24 numbers, field 10 first. Accepted: the buffer begins with the sheet's
+ * bytes; out[2] how many they are, which is climate_length for the other calls. Refusals 4, as the other calls give it,
+ * and 15. */
+void balladsky_write_climate(const uint32_t *fields, uint8_t *climate, size_t climate_length, uint32_t *out);
+
+/* Writes a block sheet: fields are its sixteen numbers, field 1 first and 34 behind 9, and then the days of February,
+ * 28 or 29; anything else there is refused 4 with 41. 28 is left out of the sheet, 29 is its seventeenth number.
+ * Accepted: as for the climate sheet, out[2] being block_length. Refusals 4 to 7, as the other calls give them, and
+ * 15. */
+void balladsky_write_block(const uint32_t *fields, uint8_t *block, size_t block_length, uint32_t *out);
 
 #ifdef __cplusplus
 }

@@ -1,15 +1,17 @@
-/* A season of four days on the small sheet of document 01, with two power cuts. Prints the decade table, what the soil
+/* A season of four days on the small pair of sheets, with two power cuts. Prints the decade table, what the soil
  * probes say on day 3, the ledger and the lost yield. */
 #include "balladsky.h"
 #include <stdio.h>
 #include <stdlib.h>
 #include <string.h>
 
-/* 1 9; 1 1 1 1; 40 100 60; 500 and eleven 0; twelve 0; 100 20 20 50; 75; 0; turns 127. */
-static const uint8_t sheet[] = {
-    1, 9, 1, 1, 1, 1, 40, 100, 60, 0xF4, 3, 0, 0, 0, 0, 0, 0, 0, 0, 0, 0, 0,
-    0, 0, 0, 0, 0, 0, 0, 0, 0, 0, 0, 0, 100, 20, 20, 50, 75, 0, 127,
+/* ETo 500 and eleven 0; rain twelve 0. */
+static const uint8_t climate[] = {
+    0xF4, 3, 0, 0, 0, 0, 0, 0, 0, 0, 0, 0, 0, 0, 0, 0, 0, 0, 0, 0, 0, 0, 0, 0, 0,
 };
+
+/* 1 9; 1 1 1 1; 40 100 60; 100 20 20 50; 75; 0; turns 127. */
+static const uint8_t block[] = {1, 9, 1, 1, 1, 1, 40, 100, 60, 100, 20, 20, 50, 75, 0, 127};
 
 /* A NaN by its bits. */
 static const union { uint32_t bits; float value; } no_number = {0x7FC00000};
@@ -29,7 +31,7 @@ static void must(const char *what) {
 /* Six numbers a row. */
 static void print_table(void) {
     uint32_t rows[BALLADSKY_ROWS];
-    balladsky_table(sheet, sizeof sheet, rows, BALLADSKY_ROWS, out);
+    balladsky_table(climate, sizeof climate, block, sizeof block, rows, BALLADSKY_ROWS, out);
     must("table");
     printf("table: %u row%s\n", out[2], out[2] == 1 ? "" : "s");
     for (uint32_t i = 0; i < 6 * out[2]; i++)
@@ -44,7 +46,7 @@ static void store(uint32_t done) {
 
 /* What firmware does when it comes up: open, and do the stores that mend what a cut left. */
 static void come_up(void) {
-    balladsky_open(sheet, sizeof sheet, area, sizeof area, out);
+    balladsky_open(climate, sizeof climate, block, sizeof block, area, sizeof area, out);
     if (out[0] == BALLADSKY_TORN) {
         printf("torn at %u\n", out[1]);
         printf("mended %u place%s:", out[20], out[20] == 1 ? "" : "s");
@@ -58,23 +60,24 @@ static void come_up(void) {
     }
 }
 
-typedef void entry_call(const uint8_t *, size_t, const uint8_t *, size_t, uint32_t, uint32_t *);
+typedef void entry_call(const uint8_t *, size_t, const uint8_t *, size_t, const uint8_t *, size_t, uint32_t,
+    uint32_t *);
 
 /* Enters water; the power goes after `cut` stores, and it is entered again. */
 static void enter_with_cut(const char *name, entry_call *call, uint32_t amount, uint32_t cut) {
-    call(sheet, sizeof sheet, area, sizeof area, amount, out);
+    call(climate, sizeof climate, block, sizeof block, area, sizeof area, amount, out);
     must(name);
     printf("%s %u: power cut after %u of %u stores\n", name, amount, cut, out[3]);
     store(cut);
     come_up();
-    call(sheet, sizeof sheet, area, sizeof area, amount, out);
+    call(climate, sizeof climate, block, sizeof block, area, sizeof area, amount, out);
     must(name);
     printf("%s %u: %u stores from %u\n", name, amount, out[3], out[2]);
     store(out[3]);
 }
 
 static void close_day(unsigned day) {
-    balladsky_close(sheet, sizeof sheet, area, sizeof area, out);
+    balladsky_close(climate, sizeof climate, block, sizeof block, area, sizeof area, out);
     must("close");
     store(out[3]);
     printf("day %u closed\n", day);
@@ -82,7 +85,8 @@ static void close_day(unsigned day) {
 
 /* The ledger's depletion beside the measured one, in a soil whose field capacity is 0.3 of its volume. */
 static void print_probes(const char *what, uint32_t shallow_kind, float shallow, uint32_t deep_kind, float deep) {
-    balladsky_probe(sheet, sizeof sheet, area, sizeof area, shallow_kind, shallow, deep_kind, deep, 3000, out);
+    balladsky_probe(climate, sizeof climate, block, sizeof block, area, sizeof area, shallow_kind, shallow, deep_kind,
+        deep, 3000, out);
     if (out[0] == BALLADSKY_ACCEPTED)
         printf("probes, %s: ledger %u, measured %u\n", what, out[2], out[3]);
     else
@@ -95,7 +99,7 @@ static void print_ledger(void) {
         "season percolation", "place", "season need",
     };
     static const char *const stages[] = {"initial", "development", "mid", "late"};
-    balladsky_open(sheet, sizeof sheet, area, sizeof area, out);
+    balladsky_open(climate, sizeof climate, block, sizeof block, area, sizeof area, out);
     must("open");
     for (int i = 0; i < 10; i++)
         printf("%s %u\n", names[i], out[2 + i]);
@@ -105,7 +109,7 @@ static void print_ledger(void) {
 
 /* The season's and the four stages', in ten-thousandths. */
 static void print_loss(uint32_t ky) {
-    balladsky_loss(sheet, sizeof sheet, area, sizeof area, ky, out);
+    balladsky_loss(climate, sizeof climate, block, sizeof block, area, sizeof area, ky, out);
     must("loss");
     printf("loss with Ky %u: season %u, stages %u %u %u %u\n", ky, out[2], out[3], out[4], out[5], out[6]);
 }
@@ -121,7 +125,7 @@ int main(void) {
     print_probes("shallow low", BALLADSKY_PROBE_LOW, 2.9f, BALLADSKY_PROBE_WATER, 0.28125f);
     print_probes("both silent", BALLADSKY_PROBE_SILENT, 0, BALLADSKY_PROBE_SILENT, 0);
     print_probes("shallow NaN", BALLADSKY_PROBE_WATER, no_number.value, BALLADSKY_PROBE_WATER, 0.28125f);
-    balladsky_plan(sheet, sizeof sheet, area, sizeof area, depths, BALLADSKY_DEPTHS, out);
+    balladsky_plan(climate, sizeof climate, block, sizeof block, area, sizeof area, depths, BALLADSKY_DEPTHS, out);
     must("plan");
     printf("plan: %u watering%s, net %u, gross %u\n", out[2], out[2] == 1 ? "" : "s", out[3], out[4]);
     enter_with_cut("irrigation", balladsky_irrigation, depths[0], 1);

@@ -1,7 +1,57 @@
-//! Soil probes by a separate reading of document 02, T-07: what the library and the plain implementation are held
-//! against.
+//! Pairs of sheets and soil probes by a separate reading of document 02, T-08 and T-07: what the library and the plain
+//! implementation are held against.
 use crate::plain::Reading;
-use crate::random::Probes;
+use crate::random::{self, Probes, Sheets};
+
+/// The small sheet of document 01 as a pair.
+pub const CLIMATE: [u8; 25] = [0xf4, 3, 0, 0, 0, 0, 0, 0, 0, 0, 0, 0, 0, 0, 0, 0, 0, 0, 0, 0, 0, 0, 0, 0, 0];
+pub const BLOCK: [u8; 16] = [1, 9, 1, 1, 1, 1, 0x28, 0x64, 0x3c, 0x64, 0x14, 0x14, 0x32, 0x4b, 0, 0x7f];
+
+/// A pair, the refusal's number and the number returned with it.
+pub type Pair = (Sheets, [u32; 2]);
+
+/// Pairs made of the small one: those that the climate sheet decides, whatever the block sheet is, and those that the
+/// block sheet does.
+pub fn pairs() -> [Vec<Pair>; 2] {
+    let pair = Sheets::new;
+    let changed = |changes: &[(usize, u32)]| random::sheets(&random::with(random::small(127), changes));
+    let longer = [&CLIMATE[..], &[0]].concat();
+    let block = |behind: &[u8]| pair(&CLIMATE, &[&BLOCK, behind].concat());
+    let field_20 = changed(&[(20, 1_501)]).climate;
+    let leap_day = changed(&[(1, 2), (2, 29)]).block;
+    let by_climate = vec![
+        (pair(&[], &[]), [1, 0]),
+        (pair(&CLIMATE[..24], &BLOCK), [1, 24]),
+        (pair(&longer, &BLOCK), [3, 25]),
+        (pair(&longer, &[]), [3, 25]),
+        (changed(&[(10, 1_501)]), [4, 10]),
+        (changed(&[(33, 60_001)]), [4, 33]),
+        (changed(&[(20, 1_501), (1, 13)]), [4, 20]),
+        (pair(&field_20, &[]), [4, 20]),
+        (pair(&[0x80, 0], &[0x80, 0]), [2, 1]),
+        (pair(&BLOCK, &CLIMATE), [1, 16]),
+    ];
+    let by_block = vec![
+        (pair(&CLIMATE, &[]), [1, 0]),
+        (pair(&CLIMATE, &BLOCK[..15]), [1, 15]),
+        (pair(&CLIMATE, &[1, 0x80, 0]), [2, 2]),
+        (changed(&[(40, 128)]), [4, 40]),
+        (changed(&[(34, 0)]), [4, 34]),
+        (changed(&[(9, 9), (34, 0)]), [4, 9]),
+        (block(&[0x1d]), [0, 0]),
+        (block(&[0x1c]), [4, 41]),
+        (block(&[0x9d]), [1, 17]),
+        (block(&[0x1d, 0]), [3, 17]),
+        (pair(&CLIMATE, &leap_day), [4, 2]),
+        (pair(&CLIMATE, &[&leap_day[..], &[0x1d]].concat()), [0, 0]),
+        (changed(&[(3, 73), (4, 101), (5, 51), (6, 51)]), [5, 0]),
+        (changed(&[(3, 73), (4, 100), (5, 51), (6, 51)]), [0, 0]),
+        (changed(&[(35, 21)]), [6, 0]),
+        (changed(&[(39, 2_001)]), [7, 0]),
+        (pair(&CLIMATE, &BLOCK), [0, 0]),
+    ];
+    [by_climate, by_block]
+}
 
 /// The bits of an f32 and its v; none where it is no number from 0 to 1.
 pub const CONTENTS: [(u32, Option<u32>); 28] = [

@@ -26,12 +26,87 @@ impl Dice {
     }
 }
 
-/// Forty numbers and the days of February, as the writer takes them.
+/// Fields 1 to 40 and the days of February, in the order of their numbers.
 pub type Fields = [u32; 41];
 
-/// Their sheet: 28 is left out, any other number written.
-pub fn sheet(f: &Fields) -> Vec<u8> {
-    write_sheet(if f[40] == 28 { &f[..40] } else { f })
+/// Those of the climate, and those of the block, as the writers take them.
+pub fn climate_of(f: &Fields) -> Climate {
+    std::array::from_fn(|i| f[9 + i])
+}
+
+pub fn block_of(f: &Fields) -> Block {
+    std::array::from_fn(|i| f[if i < 9 { i } else { 24 + i }])
+}
+
+#[derive(Clone, Debug, PartialEq)]
+pub struct Sheets { pub climate: Vec<u8>, pub block: Vec<u8> }
+
+impl Sheets {
+    pub fn new(climate: &[u8], block: &[u8]) -> Sheets {
+        Sheets { climate: climate.to_vec(), block: block.to_vec() }
+    }
+
+    pub fn pair(&self) -> (&[u8], &[u8]) {
+        (&self.climate, &self.block)
+    }
+
+    /// Of an accepted pair.
+    pub fn season(&self) -> Season {
+        read_sheets(&self.climate, &self.block).unwrap()
+    }
+}
+
+/// The sheets of any fields: 28 days of February are left out, any other number written.
+pub fn sheets(f: &Fields) -> Sheets {
+    let block = block_of(f);
+    Sheets { climate: write_sheet(&climate_of(f)), block: write_sheet(if f[40] == 28 { &block[..16] } else { &block }) }
+}
+
+/// A writer, by the sheet that it makes.
+#[derive(Clone, Copy, Debug)]
+pub enum Writer { Climate, Block }
+
+impl Writer {
+    pub const BOTH: [Writer; 2] = [Writer::Climate, Writer::Block];
+
+    /// The fields that it takes: 24 numbers or 17.
+    pub fn fields(self, f: &Fields) -> Vec<u32> {
+        match self {
+            Writer::Climate => climate_of(f).to_vec(),
+            Writer::Block => block_of(f).to_vec(),
+        }
+    }
+
+    /// Its sheet of a pair.
+    pub fn sheet(self, sheets: &Sheets) -> &[u8] {
+        match self {
+            Writer::Climate => &sheets.climate,
+            Writer::Block => &sheets.block,
+        }
+    }
+
+    /// Such a sheet beside the other one of the small pair.
+    pub fn beside(self, sheet: &[u8]) -> Sheets {
+        match self {
+            Writer::Climate => Sheets::new(sheet, &cases::BLOCK),
+            Writer::Block => Sheets::new(&cases::CLIMATE, sheet),
+        }
+    }
+
+    /// Bytes that every such sheet fits in, and those of as many numbers of three bytes.
+    pub fn rooms(self) -> [usize; 2] {
+        match self {
+            Writer::Climate => [60, 72],
+            Writer::Block => [27, 51],
+        }
+    }
+
+    pub fn write(self, fields: &[u32], sheet: &mut [u8]) -> Written {
+        match self {
+            Writer::Climate => write_climate(fields.try_into().unwrap(), sheet),
+            Writer::Block => write_block(fields.try_into().unwrap(), sheet),
+        }
+    }
 }
 
 /// The small sheet of document 01.
@@ -59,7 +134,7 @@ pub fn with(mut f: Fields, changes: &[(usize, u32)]) -> Fields {
     f
 }
 
-/// Fields of an accepted sheet, of at most so many days. Half of them have 29 days of February, and one in four begins
+/// Fields of an accepted pair, of at most so many days. Half of them have 29 days of February, and one in four begins
 /// in that month, mostly near its end.
 pub fn fields(g: &mut Dice, days: u32) -> Fields {
     let mut f = ordinary(g, days);
@@ -115,11 +190,14 @@ pub fn stages(g: &mut Dice, days: u32) -> [u32; 4] {
     }
 }
 
-/// Fields at the edge of a refusal, or just past it.
-pub fn spoilt_fields(g: &mut Dice, days: u32) -> Fields {
+/// Fields whose block is at the edge of a refusal, or just past it.
+fn spoilt_fields(g: &mut Dice, days: u32) -> Fields {
     let mut f = fields(g, days);
     match g.of(0, 9) {
-        0 | 1 => f[g.of(0, 40) as usize] = g.pick(&[0, 1, 5, 28, 29, 30, 31, 127, 128, 201, 16_383, 16_384, 2_097_151, 2_097_152]),
+        0 | 1 => {
+            let field = (g.of(0, 16) + 33) as usize % 41; // 34 to 41, then 1 to 9
+            f[field] = g.pick(&[0, 1, 5, 28, 29, 30, 31, 127, 128, 201, 16_383, 16_384, 2_097_151, 2_097_152]);
+        }
         2 => (f[34], f[35]) = (f[35], f[34]),
         3 => f[38] += g.of(0, 3),
         4 => f[2 + g.of(0, 3) as usize] = g.of(150, 200),
@@ -132,9 +210,24 @@ pub fn spoilt_fields(g: &mut Dice, days: u32) -> Fields {
     f
 }
 
-/// The same; one list in four has a February of those below, and one in four any number in one of the fields.
+/// Climate fields in their range, at its edge, past it, and in it to whoever keeps 16 or 21 bits.
+const CLIMATES: [u32; 16] = [
+    0, 1, 127, 128, 1_499, 1_500, 1_501, 16_383, 16_384, 59_999, 60_000, 60_001, 65_536, 2_097_151, 2_097_152,
+    2_098_652,
+];
+
+/// One list in three has one or two such climate fields.
+fn spoil_climate(g: &mut Dice, f: &mut Fields) {
+    for _ in 0..g.pick(&[0, 0, 0, 0, 1, 2]) {
+        f[g.of(9, 32) as usize] = g.pick(&CLIMATES);
+    }
+}
+
+/// Fields spoilt in both ways; one list in four has a February of those below, and one in four any number in one of the
+/// fields.
 pub fn any_fields(g: &mut Dice, days: u32) -> Fields {
     let mut f = spoilt_fields(g, days);
+    spoil_climate(g, &mut f);
     if g.one_in(4) {
         february(g, &mut f);
     }
@@ -155,30 +248,68 @@ fn february(g: &mut Dice, f: &mut Fields) {
     }
 }
 
-/// A sheet of fields at the edge of a refusal. One in three has such a forty-first number, 28 too, whole, broken off or
-/// wrongly gone on, and half of those have bytes behind it. Then some bytes are spoilt.
-pub fn any_sheet(g: &mut Dice, days: u32) -> Vec<u8> {
-    let mut f = spoilt_fields(g, days);
-    let mut made = sheet(&f);
-    if g.one_in(3) {
-        february(g, &mut f);
-        let mut last = write_sheet(&f[40..]);
-        match g.of(0, 5) {
-            0 => drop(last.pop()),
-            1 => last = g.pick(&[&[0x9d][..], &[0x9d, 0], &[0x80; 2], &[0x80; 3], &[0xff], &[0xff; 2], &[0xff; 5]]).to_vec(),
-            _ => {}
-        }
-        for _ in 0..g.pick(&[0, 0, 1, 3]) {
-            last.push(g.pick(&[0, 1, 29, 0x80, 0xff]));
-        }
-        made = [write_sheet(&f[..40]), last].concat();
+/// What may stand where a number does: one broken off or wrongly gone on, and blank memory.
+const NO_NUMBERS: [&[u8]; 7] = [&[0x9d], &[0x9d, 0], &[0x80; 2], &[0x80; 3], &[0xff], &[0xff; 2], &[0xff; 5]];
+
+/// A climate sheet of fields at an edge. One in eight has a number more, whole or not. Then some bytes are spoilt.
+fn any_climate(g: &mut Dice) -> Vec<u8> {
+    let mut f = ordinary(g, 4);
+    spoil_climate(g, &mut f);
+    let mut made = sheets(&f).climate;
+    if g.one_in(8) {
+        let more = if g.one_in(2) { write_sheet(&[g.pick(&CLIMATES)]) } else { g.pick(&NO_NUMBERS).to_vec() };
+        made.extend(more);
     }
     spoil_sheet(g, &mut made);
     made
 }
 
+/// A block sheet of fields at the edge of a refusal. One in three has such a seventeenth number, 28 too, whole, broken
+/// off or wrongly gone on, and half of those have bytes behind it. Then some bytes are spoilt.
+fn any_block(g: &mut Dice, days: u32) -> Vec<u8> {
+    let mut f = spoilt_fields(g, days);
+    let mut made = sheets(&f).block;
+    if g.one_in(3) {
+        february(g, &mut f);
+        let mut last = write_sheet(&f[40..]);
+        match g.of(0, 5) {
+            0 => drop(last.pop()),
+            1 => last = g.pick(&NO_NUMBERS).to_vec(),
+            _ => {}
+        }
+        for _ in 0..g.pick(&[0, 0, 1, 3]) {
+            last.push(g.pick(&[0, 1, 29, 0x80, 0xff]));
+        }
+        made = [write_sheet(&block_of(&f)[..16]), last].concat();
+    }
+    spoil_sheet(g, &mut made);
+    made
+}
+
+/// Any climate with any block, each made of fields of its own; one climate in three is spoilt and three blocks in four.
+/// One pair in sixteen is exchanged, and one in sixteen is a run of bytes cut at another place.
+pub fn any_sheets(g: &mut Dice, days: u32) -> Sheets {
+    let mut s = sheets(&fields(g, days));
+    if g.one_in(3) {
+        s.climate = any_climate(g);
+    }
+    if !g.one_in(4) {
+        s.block = any_block(g, days);
+    }
+    match g.of(0, 15) {
+        0 => std::mem::swap(&mut s.climate, &mut s.block),
+        1 => {
+            let run = [&s.climate[..], &s.block].concat();
+            let (climate, block) = run.split_at(g.of(0, run.len() as u32) as usize);
+            s = Sheets::new(climate, block);
+        }
+        _ => {}
+    }
+    s
+}
+
 /// Some bytes of a sheet cut off, changed, put in or added.
-pub fn spoil_sheet(g: &mut Dice, sheet: &mut Vec<u8>) {
+fn spoil_sheet(g: &mut Dice, sheet: &mut Vec<u8>) {
     for _ in 0..g.pick(&[0, 0, 1, 2]) {
         let at = g.of(0, sheet.len() as u32 - 1) as usize;
         match g.of(0, 4) {
@@ -268,26 +399,26 @@ pub fn probes(g: &mut Dice) -> Probes {
 }
 
 /// A clean journal made with the calls themselves.
-pub fn journal(g: &mut Dice, s: &Season, sheet: &[u8], length: usize) -> (Vec<u8>, Ledger) {
-    let mut area = vec![0xff; length];
+pub fn journal(g: &mut Dice, sheets: &Sheets, length: usize) -> (Vec<u8>, Ledger) {
+    let (days, mut area) = (sheets.season().days, vec![0xff; length]);
     let mut at = 0;
     let mut put = |area: &mut Vec<u8>, e| {
         let bytes = book::bytes(e);
         area[at..at + bytes.len()].copy_from_slice(&bytes);
         at += bytes.len();
     };
-    let closed = if g.one_in(2) { 0 } else if g.one_in(6) { s.days } else { g.of(0, s.days) };
+    let closed = if g.one_in(2) { 0 } else if g.one_in(6) { days } else { g.of(0, days) };
     for day in 1..=closed {
         if g.one_in(4) {
             put(&mut area, book::Entry::Rain(g.pick(&[1, 40, 900, 5_000])));
         }
         put(&mut area, book::Entry::Close(day));
     }
-    if closed < s.days && g.one_in(2) {
+    if closed < days && g.one_in(2) {
         put(&mut area, book::Entry::Irrigation(g.pick(&[1, 40, 900, 5_000])));
         put(&mut area, book::Entry::Rain(g.pick(&[1, 40, 900, 5_000])));
     }
-    match open(sheet, &area).opening {
+    match open(&sheets.climate, &sheets.block, &area).opening {
         Opening::Clean(l) => (area, l),
         other => panic!("{other:?}"),
     }
@@ -322,8 +453,8 @@ pub fn tail(g: &mut Dice, day: u32) -> Vec<u8> {
 }
 
 /// A journal with such a tail, cut to about its length; one in twenty has a byte changed.
-pub fn any_journal(g: &mut Dice, s: &Season, sheet: &[u8], length: usize) -> Vec<u8> {
-    let (mut area, l) = journal(g, s, sheet, length);
+pub fn any_journal(g: &mut Dice, sheets: &Sheets, length: usize) -> Vec<u8> {
+    let (mut area, l) = journal(g, sheets, length);
     let tail = tail(g, l.day);
     let room = l.place + (tail.len() + g.of(0, 4) as usize).saturating_sub(g.of(0, 1) as usize);
     area.truncate(room);

@@ -1,4 +1,4 @@
-//! The nine calls of include/balladsky.h for Rust. The header says what each writes and what its names stand for; a
+//! The ten calls of include/balladsky.h for Rust. The header says what each writes and what its names stand for; a
 //! reference here has what the header asks of a pointer.
 
 /// What a call writes: document 01's number, the number returned with it, then the answer.
@@ -8,8 +8,10 @@ pub const OUT: usize = 24;
 pub const AREA: usize = 8192;
 pub const DEPTHS: usize = 275;
 pub const ROWS: usize = 174;
-pub const SHEET: usize = 87;
-pub const FIELDS: usize = 41;
+pub const CLIMATE: usize = 60;
+pub const BLOCK: usize = 27;
+pub const CLIMATE_FIELDS: usize = 24;
+pub const BLOCK_FIELDS: usize = 17;
 
 /// What out[0] says: accepted, or clean; torn, from open; else a refusal.
 pub const ACCEPTED: u32 = 0;
@@ -52,65 +54,98 @@ impl Probe {
 
 mod c {
     extern "C" {
-        pub fn balladsky_open(sheet: *const u8, sheet_length: usize, area: *const u8, area_length: usize, out: *mut u32);
-        pub fn balladsky_rain(sheet: *const u8, sheet_length: usize, area: *const u8, area_length: usize, amount: u32, out: *mut u32);
-        pub fn balladsky_irrigation(sheet: *const u8, sheet_length: usize, area: *const u8, area_length: usize, amount: u32, out: *mut u32);
-        pub fn balladsky_close(sheet: *const u8, sheet_length: usize, area: *const u8, area_length: usize, out: *mut u32);
+        pub fn balladsky_open(
+            climate: *const u8, climate_length: usize, block: *const u8, block_length: usize, area: *const u8,
+            area_length: usize, out: *mut u32,
+        );
+        pub fn balladsky_rain(
+            climate: *const u8, climate_length: usize, block: *const u8, block_length: usize, area: *const u8,
+            area_length: usize, amount: u32, out: *mut u32,
+        );
+        pub fn balladsky_irrigation(
+            climate: *const u8, climate_length: usize, block: *const u8, block_length: usize, area: *const u8,
+            area_length: usize, amount: u32, out: *mut u32,
+        );
+        pub fn balladsky_close(
+            climate: *const u8, climate_length: usize, block: *const u8, block_length: usize, area: *const u8,
+            area_length: usize, out: *mut u32,
+        );
         pub fn balladsky_loss(
-            sheet: *const u8, sheet_length: usize, area: *const u8, area_length: usize, ky: u32, out: *mut u32,
+            climate: *const u8, climate_length: usize, block: *const u8, block_length: usize, area: *const u8,
+            area_length: usize, ky: u32, out: *mut u32,
         );
         pub fn balladsky_probe(
-            sheet: *const u8, sheet_length: usize, area: *const u8, area_length: usize, shallow_kind: u32, shallow: f32,
-            deep_kind: u32, deep: f32, capacity: u32, out: *mut u32,
+            climate: *const u8, climate_length: usize, block: *const u8, block_length: usize, area: *const u8,
+            area_length: usize, shallow_kind: u32, shallow: f32, deep_kind: u32, deep: f32, capacity: u32,
+            out: *mut u32,
         );
         pub fn balladsky_plan(
-            sheet: *const u8, sheet_length: usize, area: *const u8, area_length: usize, depths: *mut u32, depths_length: usize, out: *mut u32,
+            climate: *const u8, climate_length: usize, block: *const u8, block_length: usize, area: *const u8,
+            area_length: usize, depths: *mut u32, depths_length: usize, out: *mut u32,
         );
-        pub fn balladsky_table(sheet: *const u8, sheet_length: usize, rows: *mut u32, rows_length: usize, out: *mut u32);
-        pub fn balladsky_write(fields: *const u32, sheet: *mut u8, sheet_length: usize, out: *mut u32);
+        pub fn balladsky_table(
+            climate: *const u8, climate_length: usize, block: *const u8, block_length: usize, rows: *mut u32,
+            rows_length: usize, out: *mut u32,
+        );
+        pub fn balladsky_write_climate(fields: *const u32, climate: *mut u8, climate_length: usize, out: *mut u32);
+        pub fn balladsky_write_block(fields: *const u32, block: *mut u8, block_length: usize, out: *mut u32);
     }
 }
 
-pub fn open(sheet: &[u8], area: &[u8], out: &mut Out) {
-    unsafe { c::balladsky_open(sheet.as_ptr(), sheet.len(), area.as_ptr(), area.len(), out.as_mut_ptr()) }
+pub fn open(climate: &[u8], block: &[u8], area: &[u8], out: &mut Out) {
+    let (c, b, a, out) = (climate.as_ptr(), block.as_ptr(), area.as_ptr(), out.as_mut_ptr());
+    unsafe { c::balladsky_open(c, climate.len(), b, block.len(), a, area.len(), out) }
 }
 
-pub fn rain(sheet: &[u8], area: &[u8], amount: u32, out: &mut Out) {
-    unsafe { c::balladsky_rain(sheet.as_ptr(), sheet.len(), area.as_ptr(), area.len(), amount, out.as_mut_ptr()) }
+pub fn rain(climate: &[u8], block: &[u8], area: &[u8], amount: u32, out: &mut Out) {
+    let (c, b, a, out) = (climate.as_ptr(), block.as_ptr(), area.as_ptr(), out.as_mut_ptr());
+    unsafe { c::balladsky_rain(c, climate.len(), b, block.len(), a, area.len(), amount, out) }
 }
 
-pub fn irrigation(sheet: &[u8], area: &[u8], amount: u32, out: &mut Out) {
-    unsafe { c::balladsky_irrigation(sheet.as_ptr(), sheet.len(), area.as_ptr(), area.len(), amount, out.as_mut_ptr()) }
+pub fn irrigation(climate: &[u8], block: &[u8], area: &[u8], amount: u32, out: &mut Out) {
+    let (c, b, a, out) = (climate.as_ptr(), block.as_ptr(), area.as_ptr(), out.as_mut_ptr());
+    unsafe { c::balladsky_irrigation(c, climate.len(), b, block.len(), a, area.len(), amount, out) }
 }
 
-pub fn close(sheet: &[u8], area: &[u8], out: &mut Out) {
-    unsafe { c::balladsky_close(sheet.as_ptr(), sheet.len(), area.as_ptr(), area.len(), out.as_mut_ptr()) }
+pub fn close(climate: &[u8], block: &[u8], area: &[u8], out: &mut Out) {
+    let (c, b, a, out) = (climate.as_ptr(), block.as_ptr(), area.as_ptr(), out.as_mut_ptr());
+    unsafe { c::balladsky_close(c, climate.len(), b, block.len(), a, area.len(), out) }
 }
 
-pub fn loss(sheet: &[u8], area: &[u8], ky: u32, out: &mut Out) {
-    unsafe { c::balladsky_loss(sheet.as_ptr(), sheet.len(), area.as_ptr(), area.len(), ky, out.as_mut_ptr()) }
+pub fn loss(climate: &[u8], block: &[u8], area: &[u8], ky: u32, out: &mut Out) {
+    let (c, b, a, out) = (climate.as_ptr(), block.as_ptr(), area.as_ptr(), out.as_mut_ptr());
+    unsafe { c::balladsky_loss(c, climate.len(), b, block.len(), a, area.len(), ky, out) }
 }
 
-pub fn probe(sheet: &[u8], area: &[u8], shallow: Probe, deep: Probe, capacity: u32, out: &mut Out) {
-    probe_of_any_kind(sheet, area, shallow.reading(), deep.reading(), capacity, out)
+pub fn probe(climate: &[u8], block: &[u8], area: &[u8], shallow: Probe, deep: Probe, capacity: u32, out: &mut Out) {
+    probe_of_any_kind(climate, block, area, shallow.reading(), deep.reading(), capacity, out)
 }
 
 /// The same with any kinds.
-pub fn probe_of_any_kind(sheet: &[u8], area: &[u8], shallow: Reading, deep: Reading, capacity: u32, out: &mut Out) {
-    let (s, a, out) = (sheet.as_ptr(), area.as_ptr(), out.as_mut_ptr());
-    let ((shallow_kind, shallow), (deep_kind, deep)) = (shallow, deep);
-    unsafe { c::balladsky_probe(s, sheet.len(), a, area.len(), shallow_kind, shallow, deep_kind, deep, capacity, out) }
+pub fn probe_of_any_kind(
+    climate: &[u8], block: &[u8], area: &[u8], shallow: Reading, deep: Reading, capacity: u32, out: &mut Out,
+) {
+    let (c, b, a, out) = (climate.as_ptr(), block.as_ptr(), area.as_ptr(), out.as_mut_ptr());
+    let ((s, shallow), (d, deep)) = (shallow, deep);
+    unsafe { c::balladsky_probe(c, climate.len(), b, block.len(), a, area.len(), s, shallow, d, deep, capacity, out) }
 }
 
-pub fn plan(sheet: &[u8], area: &[u8], depths: &mut [u32], out: &mut Out) {
-    unsafe { c::balladsky_plan(sheet.as_ptr(), sheet.len(), area.as_ptr(), area.len(), depths.as_mut_ptr(), depths.len(), out.as_mut_ptr()) }
+pub fn plan(climate: &[u8], block: &[u8], area: &[u8], depths: &mut [u32], out: &mut Out) {
+    let (c, b, a, d, out) = (climate.as_ptr(), block.as_ptr(), area.as_ptr(), depths.as_mut_ptr(), out.as_mut_ptr());
+    unsafe { c::balladsky_plan(c, climate.len(), b, block.len(), a, area.len(), d, depths.len(), out) }
 }
 
-pub fn table(sheet: &[u8], rows: &mut [u32], out: &mut Out) {
-    unsafe { c::balladsky_table(sheet.as_ptr(), sheet.len(), rows.as_mut_ptr(), rows.len(), out.as_mut_ptr()) }
+pub fn table(climate: &[u8], block: &[u8], rows: &mut [u32], out: &mut Out) {
+    let (c, b, r, out) = (climate.as_ptr(), block.as_ptr(), rows.as_mut_ptr(), out.as_mut_ptr());
+    unsafe { c::balladsky_table(c, climate.len(), b, block.len(), r, rows.len(), out) }
 }
 
-/// The last of the fields is the days of February, 28 or 29; 28 is left out of the sheet.
-pub fn write(fields: &[u32; FIELDS], sheet: &mut [u8], out: &mut Out) {
-    unsafe { c::balladsky_write(fields.as_ptr(), sheet.as_mut_ptr(), sheet.len(), out.as_mut_ptr()) }
+/// Fields 10 to 33.
+pub fn write_climate(fields: &[u32; CLIMATE_FIELDS], climate: &mut [u8], out: &mut Out) {
+    unsafe { c::balladsky_write_climate(fields.as_ptr(), climate.as_mut_ptr(), climate.len(), out.as_mut_ptr()) }
+}
+
+/// Fields 1 to 9, 34 to 40 and the days of February, 28 or 29; 28 is left out of the sheet.
+pub fn write_block(fields: &[u32; BLOCK_FIELDS], block: &mut [u8], out: &mut Out) {
+    unsafe { c::balladsky_write_block(fields.as_ptr(), block.as_mut_ptr(), block.len(), out.as_mut_ptr()) }
 }

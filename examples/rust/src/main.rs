@@ -1,12 +1,14 @@
-//! A season of four days on the small sheet of document 01, with two power cuts. Prints the decade table, what the soil
+//! A season of four days on the small pair of sheets, with two power cuts. Prints the decade table, what the soil
 //! probes say on day 3, the ledger and the lost yield.
 use balladsky::{close, irrigation, loss, open, plan, probe, rain, table, Out, Probe, ACCEPTED, DEPTHS, OUT, ROWS, TORN};
 
-/// 1 9; 1 1 1 1; 40 100 60; 500 and eleven 0; twelve 0; 100 20 20 50; 75; 0; turns 127.
-const SHEET: [u8; 41] = [
-    1, 9, 1, 1, 1, 1, 40, 100, 60, 0xf4, 3, 0, 0, 0, 0, 0, 0, 0, 0, 0, 0, 0, //
-    0, 0, 0, 0, 0, 0, 0, 0, 0, 0, 0, 0, 100, 20, 20, 50, 75, 0, 127,
-];
+/// ETo 500 and eleven 0; rain twelve 0.
+const CLIMATE: [u8; 25] = [0xf4, 3, 0, 0, 0, 0, 0, 0, 0, 0, 0, 0, 0, 0, 0, 0, 0, 0, 0, 0, 0, 0, 0, 0, 0];
+
+/// 1 9; 1 1 1 1; 40 100 60; 100 20 20 50; 75; 0; turns 127.
+const BLOCK: [u8; 16] = [1, 9, 1, 1, 1, 1, 40, 100, 60, 100, 20, 20, 50, 75, 0, 127];
+
+type EntryCall = fn(&[u8], &[u8], &[u8], u32, &mut Out);
 
 struct Firmware {
     area: [u8; 64],
@@ -28,7 +30,7 @@ impl Firmware {
     /// Six numbers a row.
     fn print_table(&mut self) {
         let mut rows = [0; ROWS];
-        table(&SHEET, &mut rows, &mut self.out);
+        table(&CLIMATE, &BLOCK, &mut rows, &mut self.out);
         self.accepted("table");
         let count = self.out[2] as usize;
         println!("table: {count} row{}", if count == 1 { "" } else { "s" });
@@ -39,7 +41,7 @@ impl Firmware {
 
     /// What firmware does when it comes up: open, and do the stores that mend what a cut left.
     fn come_up(&mut self) {
-        open(&SHEET, &self.area, &mut self.out);
+        open(&CLIMATE, &BLOCK, &self.area, &mut self.out);
         if self.out[0] != TORN {
             return self.accepted("open");
         }
@@ -53,20 +55,20 @@ impl Firmware {
     }
 
     /// Enters water; the power goes after `cut` stores, and it is entered again.
-    fn enter_with_cut(&mut self, name: &str, call: fn(&[u8], &[u8], u32, &mut Out), amount: u32, cut: u32) {
-        call(&SHEET, &self.area, amount, &mut self.out);
+    fn enter_with_cut(&mut self, name: &str, call: EntryCall, amount: u32, cut: u32) {
+        call(&CLIMATE, &BLOCK, &self.area, amount, &mut self.out);
         self.accepted(name);
         println!("{name} {amount}: power cut after {cut} of {} stores", self.out[3]);
         self.store(cut);
         self.come_up();
-        call(&SHEET, &self.area, amount, &mut self.out);
+        call(&CLIMATE, &BLOCK, &self.area, amount, &mut self.out);
         self.accepted(name);
         println!("{name} {amount}: {} stores from {}", self.out[3], self.out[2]);
         self.store(self.out[3]);
     }
 
     fn close_day(&mut self, day: u32) {
-        close(&SHEET, &self.area, &mut self.out);
+        close(&CLIMATE, &BLOCK, &self.area, &mut self.out);
         self.accepted("close");
         self.store(self.out[3]);
         println!("day {day} closed");
@@ -74,7 +76,7 @@ impl Firmware {
 
     /// The ledger's depletion beside the measured one, in a soil whose field capacity is 0.3 of its volume.
     fn print_probes(&mut self, what: &str, shallow: Probe, deep: Probe) {
-        probe(&SHEET, &self.area, shallow, deep, 3_000, &mut self.out);
+        probe(&CLIMATE, &BLOCK, &self.area, shallow, deep, 3_000, &mut self.out);
         match self.out {
             [ACCEPTED, _, ledger, measured, ..] => println!("probes, {what}: ledger {ledger}, measured {measured}"),
             [number, value, ..] => println!("probes, {what}: refused {number} {value}"),
@@ -82,7 +84,7 @@ impl Firmware {
     }
 
     fn print_ledger(&mut self) {
-        open(&SHEET, &self.area, &mut self.out);
+        open(&CLIMATE, &BLOCK, &self.area, &mut self.out);
         self.accepted("open");
         let names = [
             "open day", "depletion", "waiting rain", "waiting irrigation", "season rain", "season irrigation",
@@ -98,7 +100,7 @@ impl Firmware {
 
     /// The season's and the four stages', in ten-thousandths.
     fn print_loss(&mut self, ky: u32) {
-        loss(&SHEET, &self.area, ky, &mut self.out);
+        loss(&CLIMATE, &BLOCK, &self.area, ky, &mut self.out);
         self.accepted("loss");
         let [_, _, season, initial, development, mid, late, ..] = self.out;
         println!("loss with Ky {ky}: season {season}, stages {initial} {development} {mid} {late}");
@@ -116,7 +118,7 @@ fn main() {
     f.print_probes("shallow low", Probe::Low(2.9), Probe::Water(0.28125));
     f.print_probes("both silent", Probe::Silent, Probe::Silent);
     f.print_probes("shallow NaN", Probe::Water(f32::from_bits(0x7fc0_0000)), Probe::Water(0.28125));
-    plan(&SHEET, &f.area, &mut depths, &mut f.out);
+    plan(&CLIMATE, &BLOCK, &f.area, &mut depths, &mut f.out);
     f.accepted("plan");
     let (waterings, net, gross) = (f.out[2], f.out[3], f.out[4]);
     println!("plan: {waterings} watering{}, net {net}, gross {gross}", if waterings == 1 { "" } else { "s" });

@@ -1,11 +1,11 @@
 //! Measures the library and the plain implementation side by side in one run: medians of 401 rounds, each a batch of
 //! about 20 µs of the one, then of the other, and the ratio of the medians. Every number of every answer is compared
-//! first. Journals of mixed lengths, usual seasons, those torn and sheets to write are 32 each, taken in turn.
+//! first. Journals of mixed lengths, usual seasons, those torn and pairs to write are 32 each, taken in turn.
 //!
 //!     cargo run --release --manifest-path harness/Cargo.toml --bin bench
 use balladsky::{self as library, Out, OUT};
 use harness::plain::book::{bytes, Entry};
-use harness::random::{self, Dice, Fields};
+use harness::random::{self, Dice, Sheets};
 use harness::{numbers, plain};
 use std::hint::black_box;
 use std::time::Instant;
@@ -29,15 +29,15 @@ fn timed(run: &mut Run, batch: u32) -> f64 {
 }
 
 /// A season of 275 days, the longest.
-fn season(eto: u32, rain: u32, available: u32, (sown, full): (u32, u32), fraction: u32) -> Vec<u8> {
-    let mut f = [0; 40];
+fn season(eto: u32, rain: u32, available: u32, (sown, full): (u32, u32), fraction: u32) -> Sheets {
+    let mut f = [0; 41];
     f[..9].copy_from_slice(&[3, 21, 45, 70, 90, 70, 35, 115, 60]);
     for m in 0..12 {
         f[9 + m] = eto + 20 * m as u32;
         f[21 + m] = rain + 300 * m as u32;
     }
-    f[33..].copy_from_slice(&[available, sown, full, fraction, 75, 0, 127]);
-    plain::write_sheet(&f)
+    f[33..].copy_from_slice(&[available, sown, full, fraction, 75, 0, 127, 28]);
+    random::sheets(&f)
 }
 
 /// An area of 8,192 bytes with these entries, as many as leave so many bytes.
@@ -121,7 +121,7 @@ fn same(name: &str, number: u32, out: &Out, want: &[u32]) {
 
 const NOISE: u32 = 0x5eed;
 
-/// Calls on journals or sheets in turn: with many of them a branch can't be foretold from the round before.
+/// Calls on journals or pairs in turn: with many of them a branch can't be foretold from the round before.
 fn in_turn<'a, T>(each: &'a [T], mut call: impl FnMut(&T) + 'a) -> impl FnMut() + 'a {
     let mut next = 0;
     move || {
@@ -130,115 +130,140 @@ fn in_turn<'a, T>(each: &'a [T], mut call: impl FnMut(&T) + 'a) -> impl FnMut() 
     }
 }
 
+/// The climate sheet and the block sheet, not known before the call.
+fn hidden(s: &Sheets) -> (&[u8], &[u8]) {
+    black_box(s.pair())
+}
+
+/// A call on journals, by the library and by the plain implementation; `number` is what it answers first.
+fn journal_line<'a, A>(
+    name: String, number: u32, s: &'a Sheets, areas: &'a [Vec<u8>], ours: impl Fn(&[u8], &[u8], &[u8], &mut Out) + 'a,
+    plain: impl Fn(&[u8], &[u8], &[u8]) -> A + 'a, numbers: fn(A) -> Vec<u32>,
+) -> Line<'a> {
+    let mut out = [NOISE; OUT];
+    for area in areas {
+        out = [NOISE; OUT];
+        ours(&s.climate, &s.block, area, &mut out);
+        same(&name, number, &out, &numbers(plain(&s.climate, &s.block, area)));
+    }
+    line(
+        name,
+        in_turn(areas, move |area| {
+            let (climate, block) = hidden(s);
+            ours(climate, block, area, black_box(&mut out))
+        }),
+        in_turn(areas, move |area| {
+            let (climate, block) = hidden(s);
+            black_box(plain(climate, block, area));
+        }),
+    )
+}
+
 /// Openings that find the journals clean, or torn: 0 or 10.
-fn open_line<'a>(name: &str, found: u32, sheet: &'a [u8], areas: &'a [Vec<u8>]) -> Line<'a> {
-    let mut out = [NOISE; OUT];
-    for area in areas {
-        out = [NOISE; OUT];
-        library::open(sheet, area, &mut out);
-        same(name, found, &out, &numbers::opened(plain::open(sheet, area)));
-    }
-    line(
-        format!("open: {name}"),
-        in_turn(areas, move |area| library::open(black_box(sheet), area, black_box(&mut out))),
-        in_turn(areas, move |area| { black_box(plain::open(black_box(sheet), area)); }),
+fn open_line<'a>(name: &str, found: u32, s: &'a Sheets, areas: &'a [Vec<u8>]) -> Line<'a> {
+    journal_line(format!("open: {name}"), found, s, areas, library::open, plain::open, numbers::opened)
+}
+
+fn rain_line<'a>(name: &str, s: &'a Sheets, areas: &'a [Vec<u8>]) -> Line<'a> {
+    journal_line(
+        format!("rain on: {name}"), library::ACCEPTED, s, areas,
+        |climate, block, area, out| library::rain(climate, block, area, black_box(20), out),
+        |climate, block, area| plain::rain(climate, block, area, black_box(20)), numbers::recorded,
     )
 }
 
-fn rain_line<'a>(name: &str, sheet: &'a [u8], areas: &'a [Vec<u8>]) -> Line<'a> {
-    let mut out = [NOISE; OUT];
-    for area in areas {
-        out = [NOISE; OUT];
-        library::rain(sheet, area, 20, &mut out);
-        same(name, library::ACCEPTED, &out, &numbers::recorded(plain::rain(sheet, area, 20)));
-    }
-    line(
-        format!("rain on: {name}"),
-        in_turn(areas, move |area| library::rain(black_box(sheet), area, black_box(20), black_box(&mut out))),
-        in_turn(areas, move |area| { black_box(plain::rain(black_box(sheet), area, black_box(20))); }),
-    )
-}
-
-fn loss_line<'a>(name: &str, sheet: &'a [u8], areas: &'a [Vec<u8>]) -> Line<'a> {
-    let mut out = [NOISE; OUT];
-    for area in areas {
-        out = [NOISE; OUT];
-        library::loss(sheet, area, 105, &mut out);
-        same(name, library::ACCEPTED, &out, &numbers::lost(plain::loss(sheet, area, 105)));
-    }
-    line(
-        format!("loss: {name}"),
-        in_turn(areas, move |area| library::loss(black_box(sheet), area, black_box(105), black_box(&mut out))),
-        in_turn(areas, move |area| { black_box(plain::loss(black_box(sheet), area, black_box(105))); }),
+fn loss_line<'a>(name: &str, s: &'a Sheets, areas: &'a [Vec<u8>]) -> Line<'a> {
+    journal_line(
+        format!("loss: {name}"), library::ACCEPTED, s, areas,
+        |climate, block, area, out| library::loss(climate, block, area, black_box(105), out),
+        |climate, block, area| plain::loss(climate, block, area, black_box(105)), numbers::lost,
     )
 }
 
 /// Both probes give a content.
-fn probe_line<'a>(name: &str, sheet: &'a [u8], areas: &'a [Vec<u8>]) -> Line<'a> {
-    let (shallow, deep, f) = ((1, 0.19), (1, 0.23), 3_000);
-    let mut out = [NOISE; OUT];
-    for area in areas {
-        out = [NOISE; OUT];
-        library::probe_of_any_kind(sheet, area, shallow, deep, f, &mut out);
-        same(name, library::ACCEPTED, &out, &numbers::probed(plain::probe(sheet, area, shallow, deep, f)));
-    }
-    line(
-        format!("probe: {name}"),
-        in_turn(areas, move |area| {
-            let (shallow, deep, f) = black_box((shallow, deep, f));
-            library::probe_of_any_kind(black_box(sheet), area, shallow, deep, f, black_box(&mut out))
-        }),
-        in_turn(areas, move |area| {
-            let (shallow, deep, f) = black_box((shallow, deep, f));
-            black_box(plain::probe(black_box(sheet), area, shallow, deep, f));
-        }),
+fn probe_line<'a>(name: &str, s: &'a Sheets, areas: &'a [Vec<u8>]) -> Line<'a> {
+    let given = || black_box(((1, 0.19), (1, 0.23), 3_000));
+    journal_line(
+        format!("probe: {name}"), library::ACCEPTED, s, areas,
+        move |climate, block, area, out| {
+            let (shallow, deep, f) = given();
+            library::probe_of_any_kind(climate, block, area, shallow, deep, f, out)
+        },
+        move |climate, block, area| {
+            let (shallow, deep, f) = given();
+            plain::probe(climate, block, area, shallow, deep, f)
+        },
+        numbers::probed,
     )
 }
 
-fn plan_line<'a>(name: &str, sheet: &'a [u8], area: &'a [u8]) -> Line<'a> {
+fn plan_line<'a>(name: &str, s: &'a Sheets, area: &'a [u8]) -> Line<'a> {
     let (mut out, mut ours, mut theirs) = ([NOISE; OUT], [0; 275], [0; 275]);
-    library::plan(sheet, area, &mut ours, &mut out);
-    same(name, library::ACCEPTED, &out, &numbers::planned(plain::plan(sheet, area, &mut theirs)));
+    library::plan(&s.climate, &s.block, area, &mut ours, &mut out);
+    same(name, library::ACCEPTED, &out, &numbers::planned(plain::plan(&s.climate, &s.block, area, &mut theirs)));
     assert_eq!(ours, theirs, "{name}");
     line(
         format!("plan: 275 days, {name}, {} waterings", out[2]),
-        move || library::plan(black_box(sheet), black_box(area), black_box(&mut ours), black_box(&mut out)),
-        move || { black_box(plain::plan(black_box(sheet), black_box(area), black_box(&mut theirs))); },
+        move || {
+            let (climate, block) = hidden(s);
+            library::plan(climate, block, black_box(area), black_box(&mut ours), black_box(&mut out))
+        },
+        move || {
+            let (climate, block) = hidden(s);
+            black_box(plain::plan(climate, block, black_box(area), black_box(&mut theirs)));
+        },
     )
 }
 
-fn table_line(sheet: &[u8]) -> Line<'_> {
+fn table_line(s: &Sheets) -> Line<'_> {
     let (mut out, mut ours, mut theirs) = ([NOISE; OUT], [0; 174], [0; 174]);
-    library::table(sheet, &mut ours, &mut out);
-    same("table", library::ACCEPTED, &out, &numbers::tabled(plain::table(sheet, &mut theirs)));
+    library::table(&s.climate, &s.block, &mut ours, &mut out);
+    same("table", library::ACCEPTED, &out, &numbers::tabled(plain::table(&s.climate, &s.block, &mut theirs)));
     assert_eq!(ours, theirs, "table");
     line(
         format!("table: 275 days, {} rows", out[2]),
-        move || library::table(black_box(sheet), black_box(&mut ours), black_box(&mut out)),
-        move || { black_box(plain::table(black_box(sheet), black_box(&mut theirs))); },
+        move || {
+            let (climate, block) = hidden(s);
+            library::table(climate, block, black_box(&mut ours), black_box(&mut out))
+        },
+        move || {
+            let (climate, block) = hidden(s);
+            black_box(plain::table(climate, block, black_box(&mut theirs)));
+        },
     )
 }
 
-fn write_line(sheets: &[Fields]) -> Line<'_> {
-    let (mut out, mut ours, mut theirs) = ([NOISE; OUT], [0xee; 87], [0xee; 87]);
-    for fields in sheets {
+/// A pair: its climate sheet, then its block sheet.
+fn write_line(pairs: &[(plain::Climate, plain::Block)]) -> Line<'_> {
+    let (mut out, mut ours, mut theirs) = ([NOISE; OUT], ([0xee; 60], [0xee; 27]), ([0xee; 60], [0xee; 27]));
+    for (climate, block) in pairs {
         out = [NOISE; OUT];
-        library::write(fields, &mut ours, &mut out);
-        same("write", library::ACCEPTED, &out, &numbers::written(plain::write(fields, &mut theirs)));
+        library::write_climate(climate, &mut ours.0, &mut out);
+        same("write climate", library::ACCEPTED, &out, &numbers::written(plain::write_climate(climate, &mut theirs.0)));
+        out = [NOISE; OUT];
+        library::write_block(block, &mut ours.1, &mut out);
+        same("write block", library::ACCEPTED, &out, &numbers::written(plain::write_block(block, &mut theirs.1)));
         assert_eq!(ours, theirs, "write");
     }
     line(
-        "write a sheet",
-        in_turn(sheets, move |fields| library::write(fields, black_box(&mut ours), black_box(&mut out))),
-        in_turn(sheets, move |fields| { black_box(plain::write(fields, black_box(&mut theirs))); }),
+        "write both sheets",
+        in_turn(pairs, move |(climate, block)| {
+            library::write_climate(climate, black_box(&mut ours.0), black_box(&mut out));
+            library::write_block(block, black_box(&mut ours.1), black_box(&mut out))
+        }),
+        in_turn(pairs, move |(climate, block)| {
+            black_box(plain::write_climate(climate, black_box(&mut theirs.0)));
+            black_box(plain::write_block(block, black_box(&mut theirs.1)));
+        }),
     )
 }
 
 fn main() {
-    let sheet = season(300, 2_000, 140, (30, 150), 50);
+    let sheets = season(300, 2_000, 140, (30, 150), 50);
     let few = season(300, 2_000, 140, (200, 300), 60);
     let many = season(500, 100, 100, (15, 20), 60);
-    let leap = [&sheet[..], &[29]].concat();
+    let mut leap = sheets.clone();
+    leap.block.push(29);
     let (two, four, closed, blank) = ([two_byte(0)], [four_byte(0)], [closed_days(275)], [vec![0xff; 8_192]]);
     let (two_left, four_left, closed_left) = ([two_byte(8)], [four_byte(8)], [closed_days(274)]);
     let (uneven, season) = (journals(|j| mixed(j, 0)), journals(|j| usual(j, 275)));
@@ -248,28 +273,29 @@ fn main() {
     let open_season = journals(|j| usual(96 + j, 274));
     let empty = [Vec::new()];
     let mut g = Dice(1);
-    let fields: Vec<Fields> = (0..32).map(|_| random::ordinary(&mut g, 275)).collect();
+    let fields = (0..32).map(|_| random::ordinary(&mut g, 275));
+    let pairs: Vec<_> = fields.map(|f| (random::climate_of(&f), random::block_of(&f))).collect();
     let mut lines = vec![
-        open_line("8,192 bytes of four-byte entries", library::ACCEPTED, &sheet, &four),
-        open_line("8,192 bytes of two-byte entries", library::ACCEPTED, &sheet, &two),
-        open_line("8,192 bytes of mixed lengths", library::ACCEPTED, &sheet, &uneven),
-        open_line("8,192 bytes, 275 closed days", library::ACCEPTED, &sheet, &closed),
-        open_line("8,192 bytes, a usual season", library::ACCEPTED, &sheet, &season),
-        open_line("8,192 bytes, a usual season, torn", library::TORN, &sheet, &cut_season),
-        open_line("8,192 bytes, blank", library::ACCEPTED, &sheet, &blank),
-        rain_line("four-byte entries", &sheet, &four_left),
-        rain_line("two-byte entries", &sheet, &two_left),
-        rain_line("mixed lengths", &sheet, &uneven_left),
-        rain_line("274 closed days", &sheet, &closed_left),
-        rain_line("a usual season", &sheet, &season_left),
-        loss_line("8,192 bytes, a usual season", &sheet, &other_season),
-        probe_line("8,192 bytes, a usual season", &sheet, &open_season),
+        open_line("8,192 bytes of four-byte entries", library::ACCEPTED, &sheets, &four),
+        open_line("8,192 bytes of two-byte entries", library::ACCEPTED, &sheets, &two),
+        open_line("8,192 bytes of mixed lengths", library::ACCEPTED, &sheets, &uneven),
+        open_line("8,192 bytes, 275 closed days", library::ACCEPTED, &sheets, &closed),
+        open_line("8,192 bytes, a usual season", library::ACCEPTED, &sheets, &season),
+        open_line("8,192 bytes, a usual season, torn", library::TORN, &sheets, &cut_season),
+        open_line("8,192 bytes, blank", library::ACCEPTED, &sheets, &blank),
+        rain_line("four-byte entries", &sheets, &four_left),
+        rain_line("two-byte entries", &sheets, &two_left),
+        rain_line("mixed lengths", &sheets, &uneven_left),
+        rain_line("274 closed days", &sheets, &closed_left),
+        rain_line("a usual season", &sheets, &season_left),
+        loss_line("8,192 bytes, a usual season", &sheets, &other_season),
+        probe_line("8,192 bytes, a usual season", &sheets, &open_season),
         plan_line("few", &few, &blank[0][..64]),
         plan_line("many", &many, &blank[0][..64]),
-        table_line(&sheet),
-        open_line("no area (reads the sheet)", library::ACCEPTED, &sheet, &empty),
+        table_line(&sheets),
+        open_line("no area (reads the sheet)", library::ACCEPTED, &sheets, &empty),
         open_line("no area, forty-one numbers", library::ACCEPTED, &leap, &empty),
-        write_line(&fields),
+        write_line(&pairs),
     ];
     for l in &mut lines {
         let each = (0..300).map(|_| timed(&mut l.ours, 1)).fold(f64::MAX, f64::min).max(1.0);

@@ -1,13 +1,14 @@
-//! Checks the plain implementation itself: against the documents' own numbers, a second reader and writer of sheets, a
-//! list of the year's days, water contents by their decimals, slow rules, every choice of waterings in small seasons,
-//! the book, and a literal reading of what an opening finds. It takes some minutes; 10 percent of the rounds take
-//! seconds. Status 1 at a mismatch.
+//! Checks the plain implementation itself: against the documents' own numbers, a second reader and writer of sheets,
+//! also of the one sheet that a pair was, a list of the year's days, water contents by their decimals, slow rules,
+//! every choice of waterings in small seasons, the book, and a literal reading of what an opening finds. It takes some
+//! minutes; 10 percent of the rounds take seconds. Status 1 at a mismatch.
 //!
 //!     cargo run --release --manifest-path harness/Cargo.toml --bin selfcheck [SEED [PERCENT OF THE ROUNDS]]
 use harness::plain::book::{self, Book, Call};
-use harness::plain::*;
-use harness::random::{self, small, with, Dice, Fields, Probes};
+use harness::plain::{self, *};
+use harness::random::{self, sheets, small, with, Dice, Fields, Probes, Sheets, Writer};
 use harness::{cases, numbers};
+use std::ops::RangeInclusive;
 
 struct Tally { compared: u64, wrong: u64 }
 
@@ -33,11 +34,49 @@ fn tally() -> Tally {
 
 const FF: [u8; 8_192] = [0xff; 8_192];
 
+type Range = RangeInclusive<u32>;
+/// A refusal's number and the number returned with it.
+type Refusal = (u32, usize);
+
+// ------------------------------------------------------------------ the calls on a pair of sheets
+
+fn open(s: &Sheets, area: &[u8]) -> Opened {
+    plain::open(&s.climate, &s.block, area)
+}
+
+fn rain(s: &Sheets, area: &[u8], amount: u32) -> Recorded {
+    plain::rain(&s.climate, &s.block, area, amount)
+}
+
+fn irrigation(s: &Sheets, area: &[u8], amount: u32) -> Recorded {
+    plain::irrigation(&s.climate, &s.block, area, amount)
+}
+
+fn close(s: &Sheets, area: &[u8]) -> Recorded {
+    plain::close(&s.climate, &s.block, area)
+}
+
+fn loss(s: &Sheets, area: &[u8], ky: u32) -> Lost {
+    plain::loss(&s.climate, &s.block, area, ky)
+}
+
+fn probe(s: &Sheets, area: &[u8], p: Probes) -> Probed {
+    plain::probe(&s.climate, &s.block, area, p.shallow, p.deep, p.capacity)
+}
+
+fn plan(s: &Sheets, area: &[u8], depths: &mut [u32]) -> Planned {
+    plain::plan(&s.climate, &s.block, area, depths)
+}
+
+fn table(s: &Sheets, rows: &mut [u32]) -> Tabled {
+    plain::table(&s.climate, &s.block, rows)
+}
+
 // ------------------------------------------------------------------ document 01's own numbers
 
-fn printed(sheet: &[u8]) -> String {
+fn printed(s: &Sheets) -> String {
     let mut rows = [0; 6 * ROWS];
-    let t = table(sheet, &mut rows);
+    let t = table(s, &mut rows);
     if t.number != 0 {
         return format!("{} {}\n", t.number, t.value);
     }
@@ -51,7 +90,7 @@ fn closes(days: u32) -> Vec<u8> {
 fn opened_after(f: &Fields, entries: &[u8]) -> Ledger {
     let mut area = entries.to_vec();
     area.resize(entries.len() + 9, 0xff);
-    match open(&random::sheet(f), &area).opening {
+    match open(&sheets(f), &area).opening {
         Opening::Clean(l) => l,
         other => panic!("{other:?}"),
     }
@@ -60,20 +99,20 @@ fn opened_after(f: &Fields, entries: &[u8]) -> Ledger {
 fn daggers() -> (u64, u64) {
     let mut t = tally();
     // Numbers in the sheet's form: field 39 has room for each of them.
+    let s = sheets(&small(127));
     for (v, bytes) in [(300, &[0xac, 2][..]), (127, &[0x7f]), (128, &[0x80, 1]), (120_000, &[0xc0, 0xa9, 7])] {
-        let sheet = random::sheet(&with(small(127), &[(39, v)]));
-        t.same(|| format!("bytes of {v}"), &sheet[sheet.len() - 1 - bytes.len()..sheet.len() - 1], bytes);
-        let deep = random::sheet(&with(small(127), &[(34, 400), (35, 300), (36, 300), (39, v)]));
-        t.same(|| format!("{v} read back"), read_sheet(&deep).map(|s| s.opening), Ok(v));
-        let r = rain(&random::sheet(&small(127)), &FF[..9], v);
+        let block = sheets(&with(small(127), &[(39, v)])).block;
+        t.same(|| format!("bytes of {v}"), &block[block.len() - 1 - bytes.len()..block.len() - 1], bytes);
+        let deep = sheets(&with(small(127), &[(34, 400), (35, 300), (36, 300), (39, v)]));
+        t.same(|| format!("{v} read back"), deep.season().opening, v);
+        let r = rain(&s, &FF[..9], v);
         t.same(|| format!("rain {v}"), &r.bytes[1..r.count], bytes);
     }
-    let mut sheet = random::sheet(&small(127));
-    let at = sheet.len() - 2;
-    sheet.splice(at..at + 1, [0x80, 0]);
-    t.same(|| "80 00".into(), read_sheet(&sheet).err(), Some((2, at + 1)));
+    let at = s.block.len() - 2;
+    let longer = [&s.block[..at], &[0x80, 0], &s.block[at + 1..]].concat();
+    t.same(|| "80 00".into(), read_sheets(&s.climate, &longer).err(), Some((2, at + 1)));
     let without_stores = |opening| Opened { opening, count: 0, places: [0; 3] };
-    t.same(|| "01 80 00".into(), open(&random::sheet(&small(127)), &[1, 0x80, 0, 255, 255]), without_stores(Opening::Refused(9, 0)));
+    t.same(|| "01 80 00".into(), open(&s, &[1, 0x80, 0, 255, 255]), without_stores(Opening::Refused(9, 0)));
     // Crop need, seen as the first days' use from a full, deep soil.
     let deep = [(34, 400), (35, 300), (36, 300)];
     let kc = |dev: (u32, u32), late: u32| {
@@ -89,14 +128,14 @@ fn daggers() -> (u64, u64) {
         t.same(|| format!("effective {q}"), effective(q), e);
         let f = with(small(127), &[(2, 1), (3, 10), (4, 10), (5, 10), (22, q)]);
         let mut rows = [0; 6 * ROWS];
-        let made = table(&random::sheet(&f), &mut rows);
+        let made = table(&sheets(&f), &mut rows);
         t.same(|| format!("January {q}"), (made.rows, rows[3] + rows[9] + rows[15]), (3, e));
     }
     let hundred = [(22, 101)];
     let mut rows = [0; 6 * ROWS];
-    table(&random::sheet(&with(with(small(127), &hundred), &[(1, 12), (2, 29)])), &mut rows);
+    table(&sheets(&with(with(small(127), &hundred), &[(1, 12), (2, 29)])), &mut rows);
     t.same(|| "rain of 1 January".into(), &rows[6..10], &[1, 1, rows[8], 3][..]);
-    table(&random::sheet(&with(with(small(127), &hundred), &[(2, 31)])), &mut rows);
+    table(&sheets(&with(with(small(127), &hundred), &[(2, 31)])), &mut rows);
     t.same(|| "rain of 31 January".into(), &rows[..4], &[1, 3, rows[2], 4][..]);
     for (d1, u) in [(1_000, 500), (1_001, 499), (1_500, 250)] {
         t.same(|| format!("use at {d1}"), crop_use(500, 2_000, 1_000, d1), u);
@@ -106,7 +145,6 @@ fn daggers() -> (u64, u64) {
     t.same(|| "gross at 45".into(), gross(6_280, 45), 13_956);
     t.same(|| "gross at 75".into(), gross(6_280, 75), 8_374);
     // The torn and the damaged journal.
-    let s = random::sheet(&small(127));
     let blank = Ledger { day: 1, ..Ledger::default() };
     let torn = |l, place, count, places| Opened { opening: Opening::Torn(l, place), count, places };
     t.same(|| "01 AC FF FF".into(), open(&s, &[1, 0xac, 255, 255]), torn(blank, 0, 2, [1, 0, 0]));
@@ -117,11 +155,11 @@ fn daggers() -> (u64, u64) {
     t.same(|| "01 07 02 FF 80".into(), open(&s, &cut), torn(seven, 2, 2, [4, 2, 0]));
     t.same(|| "01 07 02 FF".into(), open(&s, &[&cut[..4], &FF[..9]].concat()), torn(seven, 2, 1, [2, 0, 0]));
     t.same(|| "01 07".into(), open(&s, &[&cut[..2], &FF[..9]].concat()), without_stores(Opening::Clean(seven)));
-    // The small sheet.
+    // The small pair.
     t.same(|| "C by day".into(), [1, 2, 3, 4].map(|d| need(&with(small(127), &deep), d)), [200, 500, 500, 300]);
     let planned = |turns| {
         let mut depths = [7; 6];
-        let p = plan(&random::sheet(&small(turns)), &FF[..20], &mut depths);
+        let p = plan(&sheets(&small(turns)), &FF[..20], &mut depths);
         (p.number, p.value, p.waterings, p.net, p.gross, depths)
     };
     t.same(|| "turns 127".into(), planned(127), (0, 0, 1, 700, 934, [0, 0, 700, 0, 7, 7]));
@@ -129,7 +167,7 @@ fn daggers() -> (u64, u64) {
     t.same(|| "turns 10".into(), planned(10), (0, 0, 2, 1_200, 1_600, [0, 200, 0, 1_000, 7, 7]));
     t.same(|| "turns 1".into(), planned(1), (16, 3, 0, 0, 0, [7; 6]));
     t.same(|| "printed".into(), printed(&s), "1 1 700 0 700 934\n1 2 800 0 800 1067\n".into());
-    t.same(|| "printed, no sheet".into(), printed(&[]), "1 0\n".into());
+    t.same(|| "printed, no sheets".into(), printed(&Sheets::new(&[], &[])), "1 0\n".into());
     t.report("document 01's numbers")
 }
 
@@ -205,7 +243,7 @@ fn losses() -> (u64, u64) {
         t.same(|| format!("{days} days of {f:?}"), ([l.need, l.used], l.stages), (season, stages(by_stage)));
         for &(ky, [season, a, b, c, d]) in by_ky {
             let want = Lost { number: 0, value: 0, season, stages: [a, b, c, d] };
-            t.same(|| format!("Ky {ky}, {days} days of {f:?}"), loss(&random::sheet(&f), &closes(days), ky), want);
+            t.same(|| format!("Ky {ky}, {days} days of {f:?}"), loss(&sheets(&f), &closes(days), ky), want);
         }
     }
     let four = [3, 1, 3, 2, 3, 3, 3, 4];
@@ -216,16 +254,20 @@ fn losses() -> (u64, u64) {
     t.same(|| "four days without water".into(), opened_after(&wet, &four), want);
     // Refusals.
     let (torn, torn_later, damaged) = ([1, 0xac, 255, 255], [3, 1, 1, 0xac, 255], [255, 0xac, 255, 255]);
-    let (s, long) = (random::sheet(&wet), [0xff; 8_193]);
-    let refused: [(&[u8], &[u8], u32, u32, usize); 14] = [
+    let (s, long) = (sheets(&wet), [0xff; 8_193]);
+    let block = |length: usize, behind: &[u8]| Sheets::new(&s.climate, &[&s.block[..length], behind].concat());
+    let climate = |length: usize, behind: &[u8]| Sheets::new(&[&s.climate[..length], behind].concat(), &[]);
+    let refused: [(&Sheets, &[u8], u32, u32, usize); 16] = [
         (&s, &torn, 0, 17, 0), (&s, &torn, 1, 10, 0), (&s, &torn_later, 201, 17, 0), (&s, &torn_later, 200, 10, 2),
         (&s, &damaged, 0, 9, 0), (&s, &[3, 1, 4], 0, 9, 2), (&s, &long, 201, 8, 0), (&s, &four, 201, 17, 0),
-        (&s, &four, 0, 17, 0), (&s, &[], u32::MAX, 17, 0), (&s[..40], &[4], 0, 1, 40), (&[], &long, 0, 1, 0),
-        (&[&s[..], &[9]].concat(), &torn, 201, 4, 41), (&[&s[..], &[29, 9]].concat(), &torn, 201, 3, 42),
+        (&s, &four, 0, 17, 0), (&s, &[], u32::MAX, 17, 0), (&block(15, &[]), &[4], 0, 1, 15),
+        (&block(0, &[]), &long, 0, 1, 0), (&block(16, &[9]), &torn, 201, 4, 41),
+        (&block(16, &[29, 9]), &torn, 201, 3, 17), (&climate(24, &[]), &long, 0, 1, 24),
+        (&climate(25, &[0]), &torn, 201, 3, 25),
     ];
-    for (sheet, area, ky, number, value) in refused {
+    for (sheets, area, ky, number, value) in refused {
         let want = Lost { number, value, ..Lost::default() };
-        t.same(|| format!("Ky {ky} on {area:02x?} of {sheet:02x?}"), loss(sheet, area, ky), want);
+        t.same(|| format!("Ky {ky} on {area:02x?} of {sheets:02x?}"), loss(sheets, area, ky), want);
     }
     // Example 11, Tables 77 to 79, document 02's half of the need, Equation 29; one floor; products past 32 bits.
     let printed = [
@@ -236,7 +278,7 @@ fn losses() -> (u64, u64) {
     for (ky, need, used, want) in printed {
         t.same(|| format!("Ky {ky}, {used} of {need}"), [lost(ky, need, used), slow_loss(ky, need, used)], [want; 2]);
     }
-    let rape = random::sheet(&RAPE);
+    let rape = sheets(&RAPE);
     let area: Vec<u8> = (0..348).map(|i| u8::from_str_radix(&RAPE_JOURNAL[2 * i..][..2], 16).unwrap()).collect();
     let want = Ledger {
         day: 121, depletion: 2_874, waiting_rain: 0, waiting_irrigation: 0, rain: 24_112, irrigation: 30_840,
@@ -297,10 +339,6 @@ fn slow_probe(s: &Season, found: Opening, p: Probes) -> Probed {
     Probed { number: 0, value: 0, depletion: l.depletion, measured }
 }
 
-fn probed(sheet: &[u8], area: &[u8], p: Probes) -> Probed {
-    probe(sheet, area, p.shallow, p.deep, p.capacity)
-}
-
 /// Cases of T-07 by a separate reading, contents against their decimals, random probes on every day of long seasons.
 fn probes(g: &mut Dice, percent: u32) -> (u64, u64) {
     let mut t = tally();
@@ -310,8 +348,7 @@ fn probes(g: &mut Dice, percent: u32) -> (u64, u64) {
         t.same(|| format!("content {bits:08x}"), [by_plain(value), book::content(value), slow_content(value)], [v; 3]);
     }
     for case in cases::PROBES {
-        let sheet = random::sheet(&with(small(127), case.changes));
-        let got = numbers::probed(probed(&sheet, case.area, case.probes));
+        let got = numbers::probed(probe(&sheets(&with(small(127), case.changes)), case.area, case.probes));
         t.same(|| format!("{:?} on {:02x?}", case.probes, case.area), &got[..], case.want);
     }
     let mut any_bits = || if g.one_in(2) { g.next() as u32 } else { g.of(0x3800_0000, 0x3f80_0009) };
@@ -324,13 +361,13 @@ fn probes(g: &mut Dice, percent: u32) -> (u64, u64) {
     let mut seen = [0u32; 20];
     for _ in 0..20 * percent {
         let f = random::fields(g, DAYS as u32);
-        let sheet = random::sheet(&f);
-        let s = read_sheet(&sheet).unwrap();
+        let sheets = sheets(&f);
+        let s = sheets.season();
         for closed in 0..=s.days {
             let (area, p) = (closes(closed), random::probes(g));
             let want = slow_probe(&s, Opening::Clean(opened_after(&f, &area)), p);
             seen[want.number as usize] += 1;
-            t.same(|| format!("{p:?}, {closed} days of {f:?}"), probed(&sheet, &area, p), want);
+            t.same(|| format!("{p:?}, {closed} days of {f:?}"), probe(&sheets, &area, p), want);
         }
     }
     println!("probes by answer, 0 accepted: {seen:?}");
@@ -342,22 +379,22 @@ fn probes(g: &mut Dice, percent: u32) -> (u64, u64) {
 /// Document 02's cases of T-06, then tables and needs from every date by a list of the year's days.
 fn februaries() -> (u64, u64) {
     let mut t = tally();
-    // Bytes behind the fortieth number of the small sheet, some fields changed.
+    // Bytes behind the sixteenth number of the small block, some fields changed.
     let (day, last, none) = ([(1, 2), (2, 29)], [(1, 2), (2, 28)], []);
     let behind: [(&[(usize, u32)], &[u8], (u32, usize)); 26] = [
         (&none, &[], (0, 0)), (&none, &[0x1d], (0, 0)), (&none, &[0x1c], (4, 41)), (&none, &[0x1e], (4, 41)),
-        (&none, &[0], (4, 41)), (&none, &[0x9d, 1], (4, 41)), (&none, &[0x9d], (1, 42)), (&none, &[0x9d, 0], (2, 42)),
-        (&none, &[0x80, 0x80], (1, 43)), (&none, &[0x80, 0x80, 0x80], (2, 43)), (&none, &[0x1d, 0], (3, 42)),
-        (&none, &[0x1e, 0], (3, 42)), (&none, &[0xff], (1, 42)), (&none, &[0xff; 2], (1, 43)), (&none, &[0xff; 3], (2, 43)),
+        (&none, &[0], (4, 41)), (&none, &[0x9d, 1], (4, 41)), (&none, &[0x9d], (1, 17)), (&none, &[0x9d, 0], (2, 17)),
+        (&none, &[0x80, 0x80], (1, 18)), (&none, &[0x80, 0x80, 0x80], (2, 18)), (&none, &[0x1d, 0], (3, 17)),
+        (&none, &[0x1e, 0], (3, 17)), (&none, &[0xff], (1, 17)), (&none, &[0xff; 2], (1, 18)),
+        (&none, &[0xff; 3], (2, 18)),
         (&day, &[], (4, 2)), (&day, &[28], (4, 2)), (&day, &[30], (4, 2)), (&day, &[0xc8, 1], (4, 2)), (&day, &[29], (0, 0)),
         (&last, &[28], (4, 41)), (&last, &[30], (4, 41)), (&[(1, 2), (2, 30)], &[29], (4, 2)),
         (&[(1, 13), (2, 29)], &[30], (4, 1)), (&[(40, 128)], &[30], (4, 40)), (&[(35, 21)], &[30], (4, 41)),
     ];
     for (changes, bytes, want) in behind {
-        let sheet = [write_sheet(&with(small(127), changes)[..40]), bytes.to_vec()].concat();
-        let what = |who: &str| format!("{who}, {changes:?} and {bytes:02x?}");
-        t.same(|| what("reader"), read_sheet(&sheet).map_or_else(|e| e, |_| (0, 0)), want);
-        t.same(|| what("second reader"), slow_sheet(&sheet).map_or_else(|e| e, |_| (0, 0)), want);
+        let mut pair = sheets(&with(small(127), changes));
+        pair.block.extend(bytes);
+        both_readers(&mut t, &pair, want);
     }
     // A season from 27 February: rows, depths and totals, and the depletion after each close without water.
     let seasons = [
@@ -366,8 +403,8 @@ fn februaries() -> (u64, u64) {
     ];
     for (february, rows, depths, totals, depletions) in seasons {
         let (f, mut got) = (random::leap(february), [7; 5]);
-        let p = plan(&random::sheet(&f), &FF[..20], &mut got);
-        t.same(|| format!("table, {february}"), printed(&random::sheet(&f)), rows.into());
+        let p = plan(&sheets(&f), &FF[..20], &mut got);
+        t.same(|| format!("table, {february}"), printed(&sheets(&f)), rows.into());
         t.same(|| format!("plan, {february}"), (p.number, (p.waterings, p.net, p.gross), got), (0, totals, depths));
         let after = [1, 2, 3, 4].map(|days| opened_after(&f, &closes(days)).depletion);
         t.same(|| format!("depletions, {february}"), after, depletions);
@@ -382,7 +419,7 @@ fn februaries() -> (u64, u64) {
             for m in 0..12 {
                 (f[9 + m], f[21 + m]) = (m as u32 + 1, 777 * (m as u32 + 1));
             }
-            let s = read_sheet(&random::sheet(&f)).unwrap();
+            let s = sheets(&f).season();
             let (mut want, mut needs) = (Vec::<[u32; 4]>::new(), 0);
             for day in 1..=275 {
                 let (month, date) = year[(start + day as usize - 1) % year.len()];
@@ -399,7 +436,7 @@ fn februaries() -> (u64, u64) {
                 t.same(|| format!("day {day} of {f:?}"), (found.0 as u32 + 1, found.1), (month, date));
             }
             let mut rows = [0; 6 * ROWS];
-            let made = table(&random::sheet(&f), &mut rows);
+            let made = table(&sheets(&f), &mut rows);
             let got: Vec<[u32; 4]> = rows[..6 * made.rows].chunks(6).map(|r| [r[0], r[1], r[2], r[3]]).collect();
             t.same(|| format!("rows of {f:?}"), got, want);
             t.same(|| format!("needs of {f:?}"), opened_after(&f, &closes(275)).need, needs);
@@ -410,14 +447,14 @@ fn februaries() -> (u64, u64) {
 
 // ------------------------------------------------------------------ random sheets
 
-/// The sheet read a second time, byte by byte and by the list of refusals; 28 days of February where it has none.
-fn slow_sheet(sheet: &[u8]) -> Result<Fields, (u32, usize)> {
-    let (mut f, mut field, mut shift) = ([0u32; 41], 0, 0);
+/// A sheet's numbers read a second time, byte by byte: so many, and no more than so many.
+fn slow_numbers(sheet: &[u8], least: usize, most: usize) -> Result<Vec<u32>, Refusal> {
+    let (mut numbers, mut value, mut shift) = (Vec::new(), 0, 0);
     for (at, &b) in sheet.iter().enumerate() {
-        if field == 41 {
+        if numbers.len() == most {
             return Err((3, at));
         }
-        f[field] += (b as u32 % 128) << shift;
+        value += (b as u32 % 128) << shift;
         if b >= 0x80 {
             if shift == 14 {
                 return Err((2, at));
@@ -427,46 +464,45 @@ fn slow_sheet(sheet: &[u8]) -> Result<Fields, (u32, usize)> {
             if b == 0 && shift > 0 {
                 return Err((2, at));
             }
-            (field, shift) = (field + 1, 0);
+            numbers.push(value);
+            (value, shift) = (0, 0);
         }
     }
-    if field < 40 || shift > 0 {
-        return Err((1, sheet.len()));
-    }
-    if field == 40 {
-        f[40] = 28;
-        return slow_fields(&f, 28..=28).map(|()| f);
-    }
-    slow_fields(&f, 29..=29).map(|()| f)
+    if numbers.len() < least || shift > 0 { Err((1, sheet.len())) } else { Ok(numbers) }
 }
 
-/// Forty numbers and the days of February, which may be these, by the list of refusals, 4 to 7.
-fn slow_fields(f: &Fields, february: std::ops::RangeInclusive<u32>) -> Result<(), (u32, usize)> {
-    for i in 1..=41usize {
-        let (low, high) = match i {
-            1 => (1, 12),
+/// The lowest of some fields that is outside its range; February may have these days.
+fn slow_ranges(f: &Fields, fields: impl Iterator<Item = usize>, february: Range) -> Result<(), Refusal> {
+    for i in fields {
+        let range = match i {
+            1 => 1..=12,
             2 => match (f[0], f[40]) {
-                (2, 29) => (1, 29),
-                (2, _) => (1, 28),
-                (4 | 6 | 9 | 11, _) => (1, 30),
-                _ => (1, 31),
+                (2, 29) => 1..=29,
+                (2, _) => 1..=28,
+                (4 | 6 | 9 | 11, _) => 1..=30,
+                _ => 1..=31,
             },
-            3..=6 => (1, 200),
-            7..=9 => (10, 200),
-            10..=21 => (0, 1_500),
-            22..=33 => (0, 60_000),
-            34 => (1, 400),
-            35 | 36 => (10, 300),
-            37 => (5, 80),
-            38 => (1, 100),
-            39 => (0, 120_000),
-            40 => (0, 127),
-            _ => (*february.start(), *february.end()),
+            3..=6 => 1..=200,
+            7..=9 => 10..=200,
+            10..=21 => 0..=1_500,
+            22..=33 => 0..=60_000,
+            34 => 1..=400,
+            35 | 36 => 10..=300,
+            37 => 5..=80,
+            38 => 1..=100,
+            39 => 0..=120_000,
+            40 => 0..=127,
+            _ => february.clone(),
         };
-        if f[i - 1] < low || f[i - 1] > high {
+        if !range.contains(&f[i - 1]) {
             return Err((4, i));
         }
     }
+    Ok(())
+}
+
+/// Refusals 5 to 7.
+fn slow_rules(f: &Fields) -> Result<(), Refusal> {
     let grown = f[2] + f[3];
     if f[2] + f[3] + f[4] + f[5] > 275 {
         Err((5, 0))
@@ -479,26 +515,95 @@ fn slow_fields(f: &Fields, february: std::ops::RangeInclusive<u32>) -> Result<()
     }
 }
 
+/// The block's numbers by the list of refusals, 4 to 7.
+fn slow_block(f: &Fields, february: Range) -> Result<(), Refusal> {
+    slow_ranges(f, (1..=9).chain(34..=41), february)?;
+    slow_rules(f)
+}
+
+/// The days of February, 28 where the sheet has none, and what they may be.
+fn slow_february(last: Option<&u32>) -> (u32, Range) {
+    last.map_or((28, 28..=28), |&v| (v, 29..=29))
+}
+
+/// A pair read a second time by the list of refusals.
+fn slow_sheets(s: &Sheets) -> Result<Fields, Refusal> {
+    let mut f = [0; 41];
+    f[9..33].copy_from_slice(&slow_numbers(&s.climate, 24, 24)?);
+    slow_ranges(&f, 10..=33, 28..=29)?;
+    let block = slow_numbers(&s.block, 16, 17)?;
+    f[..9].copy_from_slice(&block[..9]);
+    f[33..40].copy_from_slice(&block[9..16]);
+    let (last, february) = slow_february(block.get(16));
+    f[40] = last;
+    slow_block(&f, february).map(|()| f)
+}
+
+/// The one sheet of before T-08, likewise.
+fn slow_one_sheet(sheet: &[u8]) -> Result<Fields, Refusal> {
+    let numbers = slow_numbers(sheet, 40, 41)?;
+    let (last, february) = slow_february(numbers.get(40));
+    let mut f = [last; 41];
+    f[..40].copy_from_slice(&numbers[..40]);
+    slow_ranges(&f, 1..=41, february)?;
+    slow_rules(&f).map(|()| f)
+}
+
+/// A season's numbers, in the order of the fields.
+fn fields_of(s: Season) -> Fields {
+    let soil = [s.available, s.sown, s.full, s.fraction, s.efficiency, s.opening, s.turns, s.february];
+    let fields = [&[s.month as u32 + 1, s.date][..], &s.stages, &s.kc, &s.eto, &s.rain, &soil].concat();
+    assert_eq!(s.days, s.stages.iter().sum());
+    fields.try_into().unwrap()
+}
+
+fn read(s: &Sheets) -> Result<Fields, Refusal> {
+    read_sheets(&s.climate, &s.block).map(fields_of)
+}
+
+/// A pair by the reader and by the second one, which both must refuse so or, with (0, 0), accept.
+fn both_readers(t: &mut Tally, s: &Sheets, want: Refusal) {
+    let by = [read(s), slow_sheets(s)].map(|answer| answer.map_or_else(|e| e, |_| (0, 0)));
+    t.same(|| format!("both readers, {s:02x?}"), by, [want; 2]);
+}
+
+/// Pairs by document 02, then any pairs, and their bytes as one sheet, against the second reader. What is accepted as a
+/// pair is accepted as one sheet with the same numbers, and the other way round, and its bytes are what they make.
 fn sheet_bytes(g: &mut Dice, percent: u32) -> (u64, u64) {
     let mut t = tally();
-    let (mut seen, mut leap, mut of_41, mut leap_days) = ([0u32; 9], 0, 0, 0);
-    for _ in 0..3_000 * percent {
+    t.same(|| "the small pair".into(), sheets(&small(127)), Sheets::new(&cases::CLIMATE, &cases::BLOCK));
+    for (pair, [number, value]) in cases::pairs().into_iter().flatten() {
+        both_readers(&mut t, &pair, (number, value as usize));
+    }
+    let (mut seen, mut by_climate) = ([0u32; 8], [0u32; 5]);
+    let (mut leap, mut of_41, mut leap_days) = (0, 0, 0);
+    for _ in 0..6_000 * percent {
         let days = g.pick(&[4, 30, DAYS as u32]);
-        let sheet = random::any_sheet(g, days);
-        let want = slow_sheet(&sheet);
-        seen[want.map_or_else(|e| e.0, |_| 0) as usize] += 1;
+        let pair = random::any_sheets(g, days);
+        let want = slow_sheets(&pair);
+        let number = want.map_or_else(|e| e.0, |_| 0) as usize;
+        seen[number] += 1;
+        if slow_sheets(&Sheets::new(&pair.climate, &cases::BLOCK)).is_err() {
+            by_climate[number] += 1;
+        }
         leap += want.is_ok_and(|f| f[40] == 29) as u32;
         leap_days += want.is_ok_and(|f| f[..2] == [2, 29]) as u32;
         of_41 += (want == Err((4, 41))) as u32;
-        let got = read_sheet(&sheet);
-        t.same(|| format!("sheet {sheet:02x?}"), got.as_ref().map(|s| s.days).map_err(|e| *e), want.map(|f| f[2] + f[3] + f[4] + f[5]));
-        if let (Ok(s), Ok(f)) = (got, want) {
-            let back: Vec<u32> = [s.month as u32 + 1, s.date].into_iter().chain(s.stages).chain(s.kc).chain(s.eto).chain(s.rain)
-                .chain([s.available, s.sown, s.full, s.fraction, s.efficiency, s.opening, s.turns, s.february]).collect();
-            t.same(|| format!("fields {f:?}"), back, f.to_vec());
+        t.same(|| format!("{pair:02x?}"), read(&pair), want);
+        let one = one_sheet::of(&pair.climate, &pair.block);
+        let whole = slow_one_sheet(&one);
+        t.same(|| format!("one sheet {one:02x?}"), one_sheet::read(&one).map(fields_of), whole);
+        if let Ok(f) = want {
+            let made = write_sheet(if f[40] == 28 { &f[..40] } else { &f });
+            t.same(|| format!("{pair:02x?} as one sheet"), (&one, whole), (&made, want));
+            t.same(|| format!("{pair:02x?} written again"), &sheets(&f), &pair);
+        }
+        if let Ok(f) = whole {
+            t.same(|| format!("{one:02x?} as two sheets"), read(&sheets(&f)), whole);
         }
     }
-    println!("sheets by refusal, 0 accepted: {:?}; {leap} with 29 days of February, {leap_days} that start on the last; {of_41} refused 4 41", &seen[..8]);
+    println!("pairs by refusal, 0 accepted: {:?}; 1 to 4 for the climate sheet: {:?}", seen, &by_climate[1..]);
+    println!("accepted with 29 days of February: {leap}, of which {leap_days} start on the last; {of_41} refused 4 41");
     t.report("sheet bytes, second reader")
 }
 
@@ -508,10 +613,9 @@ fn slow_bytes(v: u32) -> Vec<u8> {
     if rest == 0 { vec![low] } else { [vec![0x80 + low], slow_bytes(rest)].concat() }
 }
 
-/// The writer: document 02's cases, then any fields and buffers against a second writer and the second reader.
-fn writer(g: &mut Dice, percent: u32) -> (u64, u64) {
+/// The writers: document 02's cases, then any fields and buffers against a second writer and the second reader.
+fn writers(g: &mut Dice, percent: u32) -> (u64, u64) {
     let mut t = tally();
-    let small_bytes = [&[1, 9, 1, 1, 1, 1, 0x28, 0x64, 0x3c, 0xf4, 3][..], &[0; 23], &[0x64, 0x14, 0x14, 0x32, 0x4b, 0, 0x7f]].concat();
     let mut longest = [0; 41];
     longest[..9].copy_from_slice(&[12, 31, 128, 128, 10, 9, 200, 200, 200]);
     longest[9..21].fill(1_500);
@@ -520,52 +624,73 @@ fn writer(g: &mut Dice, percent: u32) -> (u64, u64) {
     let mut shortest = [0; 41];
     shortest[..9].copy_from_slice(&[1, 1, 1, 1, 1, 1, 10, 10, 10]);
     shortest[33..].copy_from_slice(&[1, 10, 10, 5, 1, 0, 0, 28]);
-    let leap_day = |february| with(small(127), &[(1, 2), (2, 29), (41, february)]);
-    let cases = [
-        (small(127), 41, (0, 0, 41)), (small(127), 50, (0, 0, 41)), (small(127), 40, (15, 0, 0)),
-        (with(small(127), &[(2, 32)]), 0, (4, 2, 0)), (with(small(127), &[(10, u32::MAX)]), 0, (4, 10, 0)),
-        (with(small(127), &[(3, 76), (4, 100), (5, 50), (6, 50)]), 0, (5, 0, 0)),
-        (with(small(127), &[(35, 21)]), 0, (6, 0, 0)), (with(small(127), &[(39, 2_001)]), 0, (7, 0, 0)),
-        (longest, 86, (0, 0, 86)), (longest, 85, (15, 0, 0)), (shortest, 40, (0, 0, 40)), (shortest, 39, (15, 0, 0)),
-        (with(longest, &[(41, 29)]), 87, (0, 0, 87)), (with(longest, &[(41, 29)]), 86, (15, 0, 0)),
-        (with(small(127), &[(41, 29)]), 50, (0, 0, 42)), (with(small(127), &[(41, 29)]), 41, (15, 0, 0)),
-        (with(small(127), &[(41, 30)]), 0, (4, 41, 0)), (with(small(127), &[(41, 0)]), 50, (4, 41, 0)),
-        (with(small(127), &[(41, u32::MAX)]), 50, (4, 41, 0)), (with(small(127), &[(40, 128), (41, 30)]), 50, (4, 40, 0)),
-        (with(small(127), &[(35, 21), (41, 30)]), 50, (4, 41, 0)), (leap_day(28), 50, (4, 2, 0)), (leap_day(30), 50, (4, 2, 0)),
-        (leap_day(29), 50, (0, 0, 42)),
+    let changed = |changes: &[(usize, u32)]| with(small(127), changes);
+    let leap_day = |february| changed(&[(1, 2), (2, 29), (41, february)]);
+    let climates = [
+        (small(127), 25, (0, 0, 25)), (small(127), 50, (0, 0, 25)), (small(127), 24, (15, 0, 0)),
+        (changed(&[(10, u32::MAX)]), 0, (4, 10, 0)), (changed(&[(10, 1_501)]), 50, (4, 10, 0)),
+        (changed(&[(33, 60_001)]), 50, (4, 33, 0)), (changed(&[(20, 1_501), (33, 60_001), (1, 13)]), 50, (4, 20, 0)),
+        (changed(&[(1, 13), (34, 0), (41, 30)]), 25, (0, 0, 25)), (longest, 60, (0, 0, 60)), (longest, 59, (15, 0, 0)),
+        (shortest, 24, (0, 0, 24)), (shortest, 23, (15, 0, 0)),
     ];
-    for (f, room, (number, value, bytes)) in cases {
+    let blocks = [
+        (small(127), 16, (0, 0, 16)), (small(127), 50, (0, 0, 16)), (small(127), 15, (15, 0, 0)),
+        (changed(&[(2, 32)]), 0, (4, 2, 0)), (changed(&[(10, u32::MAX)]), 16, (0, 0, 16)),
+        (changed(&[(34, 0)]), 50, (4, 34, 0)), (changed(&[(9, 9), (34, 0)]), 50, (4, 9, 0)),
+        (changed(&[(3, 76), (4, 100), (5, 50), (6, 50)]), 0, (5, 0, 0)),
+        (changed(&[(35, 21)]), 0, (6, 0, 0)), (changed(&[(39, 2_001)]), 0, (7, 0, 0)),
+        (longest, 26, (0, 0, 26)), (longest, 25, (15, 0, 0)), (shortest, 16, (0, 0, 16)), (shortest, 15, (15, 0, 0)),
+        (with(longest, &[(41, 29)]), 27, (0, 0, 27)), (with(longest, &[(41, 29)]), 26, (15, 0, 0)),
+        (changed(&[(41, 29)]), 50, (0, 0, 17)), (changed(&[(41, 29)]), 16, (15, 0, 0)),
+        (changed(&[(41, 30)]), 0, (4, 41, 0)), (changed(&[(41, 0)]), 50, (4, 41, 0)),
+        (changed(&[(41, u32::MAX)]), 50, (4, 41, 0)), (changed(&[(40, 128), (41, 30)]), 50, (4, 40, 0)),
+        (changed(&[(35, 21), (41, 30)]), 50, (4, 41, 0)), (leap_day(28), 50, (4, 2, 0)), (leap_day(30), 50, (4, 2, 0)),
+        (leap_day(29), 50, (0, 0, 17)),
+    ];
+    let both = climates.map(|c| (Writer::Climate, c)).into_iter().chain(blocks.map(|b| (Writer::Block, b)));
+    for (writer, (f, room, (number, value, bytes))) in both {
         let mut sheet = vec![0xee; room];
-        t.same(|| format!("{f:?} in {room}"), write(&f, &mut sheet), Written { number, value, bytes });
+        let made = writer.write(&writer.fields(&f), &mut sheet);
+        t.same(|| format!("{writer:?} of {f:?} in {room}"), made, Written { number, value, bytes });
         t.same(|| format!("beyond {bytes} of {room}"), &sheet[bytes..], &vec![0xee; room - bytes][..]);
         if f == small(127) && number == 0 {
-            t.same(|| format!("small sheet in {room}"), &sheet[..41], &small_bytes[..]);
+            let small = Sheets::new(&cases::CLIMATE, &cases::BLOCK);
+            t.same(|| format!("the small pair's {writer:?}"), &sheet[..bytes], writer.sheet(&small));
         }
     }
-    let mut seen = [0u32; 16];
+    let mut seen = [[0u32; 16]; 2];
     for _ in 0..1_400 * percent {
         let days = g.pick(&[4, 30, DAYS as u32]);
         let f = random::any_fields(g, days);
-        let numbers = if f[40] == 28 { 40 } else { 41 };
-        let made: Vec<u8> = f[..numbers].iter().flat_map(|&v| slow_bytes(v)).collect();
-        for room in [made.len() - 1, made.len(), 87, 120] {
-            let noise = g.next() as u8;
-            let (mut got, mut want) = (vec![noise; room], vec![noise; room]);
-            let w = match slow_fields(&f, 28..=29) {
-                Err((number, value)) => Written { number, value, bytes: 0 },
-                Ok(()) if room < made.len() => Written { number: 15, value: 0, bytes: 0 },
-                Ok(()) => {
-                    want[..made.len()].copy_from_slice(&made);
-                    t.same(|| format!("read back {f:?}"), slow_sheet(&made), Ok(f));
-                    Written { number: 0, value: 0, bytes: made.len() }
-                }
+        for writer in Writer::BOTH {
+            let fields = writer.fields(&f);
+            let count = if fields.get(16..) == Some(&[28]) { 16 } else { fields.len() };
+            let made: Vec<u8> = fields[..count].iter().flat_map(|&v| slow_bytes(v)).collect();
+            let judged = match writer {
+                Writer::Climate => slow_ranges(&f, 10..=33, 28..=29),
+                Writer::Block => slow_block(&f, 28..=29),
             };
-            seen[w.number as usize] += 1;
-            t.same(|| format!("{f:?} in {room}"), (write(&f, &mut got), got), (w, want));
+            let [most, more] = writer.rooms();
+            for room in [made.len() - 1, made.len(), most, more] {
+                let noise = g.next() as u8;
+                let (mut got, mut want) = (vec![noise; room], vec![noise; room]);
+                let w = match judged {
+                    Err((number, value)) => Written { number, value, bytes: 0 },
+                    Ok(()) if room < made.len() => Written { number: 15, value: 0, bytes: 0 },
+                    Ok(()) => {
+                        want[..made.len()].copy_from_slice(&made);
+                        let back = slow_sheets(&writer.beside(&made)).map(|f| writer.fields(&f));
+                        t.same(|| format!("{writer:?} read back {f:?}"), back, Ok(fields.clone()));
+                        Written { number: 0, value: 0, bytes: made.len() }
+                    }
+                };
+                seen[writer as usize][w.number as usize] += 1;
+                t.same(|| format!("{writer:?} of {f:?} in {room}"), (writer.write(&fields, &mut got), got), (w, want));
+            }
         }
     }
-    println!("sheets written, by refusal, 0 made: {seen:?}");
-    t.report("the writer, second writer and reader")
+    println!("sheets written, by refusal, 0 made: climates {:?}, blocks {:?}", seen[0], seen[1]);
+    t.report("the writers, second writer and reader")
 }
 
 /// Tables, plans, stage sums, losses and probes of long seasons by the slow rules.
@@ -574,8 +699,8 @@ fn long_seasons(g: &mut Dice, percent: u32) -> (u64, u64) {
     let (mut refused, mut stressed) = (0, 0);
     for _ in 0..30 * percent {
         let f = random::fields(g, DAYS as u32);
-        let sheet = random::sheet(&f);
-        let s = read_sheet(&sheet).unwrap();
+        let sheets = sheets(&f);
+        let s = sheets.season();
         let mut rows: Vec<[u32; 6]> = Vec::new();
         for day in 1..=s.days {
             let (month, date, ..) = book::calendar(&s, day);
@@ -592,18 +717,18 @@ fn long_seasons(g: &mut Dice, percent: u32) -> (u64, u64) {
             row[5] = (row[4] * 100 + s.efficiency - 1) / s.efficiency;
         }
         let mut got = [0; 6 * ROWS];
-        let made = table(&sheet, &mut got);
+        let made = table(&sheets, &mut got);
         t.same(|| format!("table {f:?}"), (made.rows, &got[..6 * made.rows]), (rows.len(), rows.as_flattened()));
         // The plan as the document tells it: find the failing day from the start, each time anew.
-        let (area, l) = random::journal(g, &s, &sheet, 4_000);
+        let (area, l) = random::journal(g, &sheets, 4_000);
         let mut got = [9; DAYS + 1];
-        let p = plan(&sheet, &area, &mut got);
+        let p = plan(&sheets, &area, &mut got);
         // A lone 01 after the last entry: torn, or damaged once all days are closed. Then the refusals' order.
         let mut spoilt = area.clone();
         spoilt[l.place] = 1;
         let refusal = |area: &[u8], room: usize| {
             let mut buffer = [9; DAYS];
-            let p = plan(&sheet, area, &mut buffer[..room]);
+            let p = plan(&sheets, area, &mut buffer[..room]);
             (p.number, p.value, p.waterings + p.net + p.gross, buffer == [9; DAYS])
         };
         let ended = l.day > s.days;
@@ -619,11 +744,11 @@ fn long_seasons(g: &mut Dice, percent: u32) -> (u64, u64) {
         t.same(|| format!("sums {f:?}"), adds_up(&l), true);
         let ky = random::ky(g);
         let found = if ended { Opening::Refused(9, l.place) } else { Opening::Torn(l, l.place) };
-        t.same(|| format!("spoilt loss {ky} {f:?}"), loss(&sheet, &spoilt, ky), slow_losses(found, ky));
-        t.same(|| format!("loss {ky} {f:?}"), loss(&sheet, &area, ky), slow_losses(Opening::Clean(l), ky));
+        t.same(|| format!("spoilt loss {ky} {f:?}"), loss(&sheets, &spoilt, ky), slow_losses(found, ky));
+        t.same(|| format!("loss {ky} {f:?}"), loss(&sheets, &area, ky), slow_losses(Opening::Clean(l), ky));
         let given = random::probes(g);
-        t.same(|| format!("spoilt {given:?} {f:?}"), probed(&sheet, &spoilt, given), slow_probe(&s, found, given));
-        t.same(|| format!("{given:?} {f:?}"), probed(&sheet, &area, given), slow_probe(&s, Opening::Clean(l), given));
+        t.same(|| format!("spoilt {given:?} {f:?}"), probe(&sheets, &spoilt, given), slow_probe(&s, found, given));
+        t.same(|| format!("{given:?} {f:?}"), probe(&sheets, &area, given), slow_probe(&s, Opening::Clean(l), given));
         stressed += (l.used < l.need) as u32;
         if ended {
             t.same(|| format!("closed plan {f:?}"), refusal(&area, 0), (11, 0, 0, true));
@@ -711,9 +836,9 @@ fn brute(g: &mut Dice, percent: u32) -> (u64, u64) {
         }
         f[38] = g.of(0, day1 * f[36] / 100);
         f[39] = g.of(0, 127) | g.of(0, 127);
-        let sheet = random::sheet(&f);
-        let s = read_sheet(&sheet).unwrap();
-        let (area, l) = random::journal(g, &s, &sheet, 80);
+        let sheets = sheets(&f);
+        let s = sheets.season();
+        let (area, l) = random::journal(g, &sheets, 80);
         if l.day > s.days {
             continue;
         }
@@ -748,7 +873,7 @@ fn brute(g: &mut Dice, percent: u32) -> (u64, u64) {
             }
         }
         let mut depths = vec![9; days];
-        let p = plan(&sheet, &area, &mut depths);
+        let p = plan(&sheets, &area, &mut depths);
         if reach < days {
             refused += 1;
             t.same(|| format!("no choice {f:?} {area:02x?}"), (p.number, p.value), (16, l.day as usize + reach));
@@ -792,17 +917,17 @@ fn brute(g: &mut Dice, percent: u32) -> (u64, u64) {
 
 // ------------------------------------------------------------------ histories against the book
 
-fn asked(sheet: &[u8], area: &[u8], call: Call) -> book::Answer {
+fn asked(s: &Sheets, area: &[u8], call: Call) -> book::Answer {
     let stores = |r: Recorded| {
         assert!(r.bytes[r.count..].iter().all(|&b| b == 0) && (r.number == 0 || r.start == 0 && r.count == 0));
         let stores = (0..r.count).map(|i| (r.start + i, r.bytes[i])).collect();
         book::Answer { number: r.number, value: r.value, ledger: None, stores }
     };
     match call {
-        Call::Rain(v) => stores(rain(sheet, area, v)),
-        Call::Irrigation(v) => stores(irrigation(sheet, area, v)),
-        Call::Close => stores(close(sheet, area)),
-        Call::Open => open(sheet, area).into(),
+        Call::Rain(v) => stores(rain(s, area, v)),
+        Call::Irrigation(v) => stores(irrigation(s, area, v)),
+        Call::Close => stores(close(s, area)),
+        Call::Open => open(s, area).into(),
     }
 }
 
@@ -814,15 +939,14 @@ fn histories(g: &mut Dice, percent: u32) -> (u64, u64) {
         histories += 1;
         let (long, fill) = (histories % 16 == 0, histories % 160 == 0);
         let f = random::fields(g, if long { DAYS as u32 } else { 12 });
-        let sheet = random::sheet(&f);
-        let season = read_sheet(&sheet).unwrap();
+        let sheets = sheets(&f);
         let length = if fill { 8_192 } else if long { g.pick(&[900, 1_500, 8_192]) } else { g.of(0, 90) as usize };
         let mut area = vec![0xff; length];
-        let mut book = Book::new(season.clone(), length);
+        let mut book = Book::new(sheets.season(), length);
         let calm = g.one_in(2);
         for _ in 0..if fill { 4_000 } else if long { 1_200 } else { 40 } {
             calls += 1;
-            let torn = matches!(open(&sheet, &area).opening, Opening::Torn(..));
+            let torn = matches!(open(&sheets, &area).opening, Opening::Torn(..));
             let amount = random::amount(g);
             let call = match g.of(0, 9) {
                 _ if torn && !g.one_in(4) => Call::Open,
@@ -833,7 +957,7 @@ fn histories(g: &mut Dice, percent: u32) -> (u64, u64) {
                 _ => Call::Close,
             };
             let ky = random::ky(g);
-            let answer = asked(&sheet, &area, call);
+            let answer = asked(&sheets, &area, call);
             let what = || format!("{call:?} on {area:02x?} of {f:?}");
             t.same(what, answer.clone(), book.answer(call));
             seen[answer.number as usize] += 1;
@@ -848,17 +972,17 @@ fn histories(g: &mut Dice, percent: u32) -> (u64, u64) {
                 cuts += 1;
                 torn_openings += matches!(b.open().opening, Opening::Torn(..)) as u64;
                 cut_openings += (call == Call::Open && done > 0 && done < all) as u64;
-                t.same(|| format!("opening after {done} of {call:?}: {a:02x?} of {f:?}"), open(&sheet, &a), b.open());
+                t.same(|| format!("opening after {done} of {call:?}: {a:02x?} of {f:?}"), open(&sheets, &a), b.open());
                 if !long {
                     // what each call would answer next, on the cut journal
                     for next in [Call::Open, Call::Close, Call::Rain(amount)] {
-                        t.same(|| format!("{next:?} after {done} of {call:?}: {a:02x?}"), asked(&sheet, &a, next), b.answer(next));
+                        t.same(|| format!("{next:?} after {done} of {call:?}: {a:02x?}"), asked(&sheets, &a, next), b.answer(next));
                     }
                     let what = || format!("loss {ky} after {done} of {call:?}: {a:02x?}");
-                    t.same(what, loss(&sheet, &a, ky), b.loss(ky));
+                    t.same(what, loss(&sheets, &a, ky), b.loss(ky));
                     let p = random::probes(g);
                     let what = || format!("{p:?} after {done} of {call:?}: {a:02x?} of {f:?}");
-                    t.same(what, probed(&sheet, &a, p), b.probe(p.shallow, p.deep, p.capacity));
+                    t.same(what, probe(&sheets, &a, p), b.probe(p.shallow, p.deep, p.capacity));
                 }
             }
             let done = if g.one_in(if calm { 12 } else { 3 }) { g.of(0, all as u32) as usize } else { all };
@@ -870,13 +994,13 @@ fn histories(g: &mut Dice, percent: u32) -> (u64, u64) {
         let l = book.ledger();
         longest = longest.max(l.day);
         fullest = fullest.max(l.place);
-        t.same(|| "last opening".into(), open(&sheet, &area), book.open());
+        t.same(|| "last opening".into(), open(&sheets, &area), book.open());
         t.same(|| format!("sums {l:?}"), adds_up(&l), true);
         for ky in random::KYS {
-            t.same(|| format!("last loss {ky}: {area:02x?} of {f:?}"), loss(&sheet, &area, ky), book.loss(ky));
+            t.same(|| format!("last loss {ky}: {area:02x?} of {f:?}"), loss(&sheets, &area, ky), book.loss(ky));
             let p = random::probes(g);
             let what = || format!("last {p:?}: {area:02x?} of {f:?}");
-            t.same(what, probed(&sheet, &area, p), book.probe(p.shallow, p.deep, p.capacity));
+            t.same(what, probe(&sheets, &area, p), book.probe(p.shallow, p.deep, p.capacity));
         }
     }
     println!("{histories} histories, {calls} calls, {cuts} cuts opened, {torn_openings} of them torn, {cut_openings} within an opening's stores; latest open day {longest}, longest journal {fullest}");
@@ -892,9 +1016,9 @@ fn any_bytes(g: &mut Dice, percent: u32) -> (u64, u64) {
     let amounts: Vec<Vec<u8>> = (1..=120_000).map(|v| book::bytes(book::Entry::Rain(v))).collect();
     for round in 0..200 * percent {
         let f = random::fields(g, g_days(round));
-        let sheet = random::sheet(&f);
-        let s = read_sheet(&sheet).unwrap();
-        let area = random::any_journal(g, &s, &sheet, 1_300);
+        let sheets = sheets(&f);
+        let s = sheets.season();
+        let area = random::any_journal(g, &sheets, 1_300);
         let room = area.len();
         let mut book = Book::new(s.clone(), room);
         let mut place = 0;
@@ -947,27 +1071,27 @@ fn any_bytes(g: &mut Dice, percent: u32) -> (u64, u64) {
         let count = places.len();
         places.resize(3, 0);
         let whole = Opened { opening: want, count, places: places.try_into().unwrap() };
-        t.same(|| format!("any bytes {area:02x?} of {f:?}"), open(&sheet, &area), whole);
+        t.same(|| format!("any bytes {area:02x?} of {f:?}"), open(&sheets, &area), whole);
         t.same(|| format!("sums {l:?}"), adds_up(&l), true);
         let ky = random::ky(g);
-        t.same(|| format!("loss {ky} of {area:02x?} of {f:?}"), loss(&sheet, &area, ky), slow_losses(want, ky));
+        t.same(|| format!("loss {ky} of {area:02x?} of {f:?}"), loss(&sheets, &area, ky), slow_losses(want, ky));
         let p = random::probes(g);
-        t.same(|| format!("{p:?} on {area:02x?} of {f:?}"), probed(&sheet, &area, p), slow_probe(&s, want, p));
+        t.same(|| format!("{p:?} on {area:02x?} of {f:?}"), probe(&sheets, &area, p), slow_probe(&s, want, p));
     }
     println!("any bytes: clean {}, torn {}, damaged {}", seen[0], seen[1], seen[2]);
-    t.same(|| "8,193 bytes".into(), open(&random::sheet(&small(1)), &[0xff; 8_193]).opening, Opening::Refused(8, 0));
+    t.same(|| "8,193 bytes".into(), open(&sheets(&small(1)), &[0xff; 8_193]).opening, Opening::Refused(8, 0));
     // Cuts after one and after two stores of 01 FF 01 leave the same area and different loose bytes.
-    let (sheet, mut area) = (random::sheet(&small(1)), [0xff; 8]);
+    let (one, mut area) = (sheets(&small(1)), [0xff; 8]);
     area[0] = 1;
     for done in 1..=2 {
-        let mut b = Book::new(read_sheet(&sheet).unwrap(), 8);
+        let mut b = Book::new(one.season(), 8);
         b.call(Call::Rain(255), done);
-        t.same(|| "01 FF".into(), open(&sheet, &area), b.open());
+        t.same(|| "01 FF".into(), open(&one, &area), b.open());
         for call in [Call::Rain(255), Call::Close, Call::Open] {
-            t.same(|| "01 FF".into(), asked(&sheet, &area, call), b.answer(call));
+            t.same(|| "01 FF".into(), asked(&one, &area, call), b.answer(call));
         }
     }
-    t.same(|| "no bytes".into(), close(&random::sheet(&small(1)), &[]).number, 14);
+    t.same(|| "no bytes".into(), close(&one, &[]).number, 14);
     t.report("any bytes, literal opening")
 }
 
@@ -980,7 +1104,7 @@ fn main() {
     let percent = std::env::args().nth(2).map_or(100, |s| s.parse().unwrap());
     println!("seed {seed}, {percent} percent");
     let mut g = Dice(seed);
-    let parts = [daggers(), losses(), februaries(), sheet_bytes(&mut g, percent), writer(&mut g, percent),
+    let parts = [daggers(), losses(), februaries(), sheet_bytes(&mut g, percent), writers(&mut g, percent),
         probes(&mut g, percent), long_seasons(&mut g, percent), brute(&mut g, percent), histories(&mut g, percent),
         any_bytes(&mut g, percent)];
     let (compared, wrong) = parts.iter().fold((0, 0), |a, p| (a.0 + p.0, a.1 + p.1));
