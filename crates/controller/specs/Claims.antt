@@ -102,7 +102,7 @@ pub record Claims : Type 0 where
   pub probed-one-to-one : (a b : Probed) → probedNumbers a ≡ probedNumbers b → a ≡ b
   -- The cases marked †.
   pub cases-hold : map (λ (c : List ℕ × List ℕ). c .0) cases ≡ map (λ (c : List ℕ × List ℕ). c .1) cases
-  -- The leap sheet's, with a February of 28 days and of 29.
+  -- The leap pair's, with a February of 28 days and of 29.
   pub leap-cases-hold : map (λ (c : List ℕ × List ℕ). c .0) leapCases ≡ map (λ (c : List ℕ × List ℕ). c .1) leapCases
   -- The probes' (document 02, T-07).
   pub probe-cases-hold : map (λ (c : List ℕ × List ℕ). c .0) probeCases ≡ map (λ (c : List ℕ × List ℕ). c .1) probeCases

@@ -1,5 +1,6 @@
-// The calls that firmware and the tablet make (documents 01 and 02), on the bytes of a climate sheet and a block sheet, the journal's area and lent buffers. Each gives the first refusal that applies,
-// with document 01's number. Nothing here stores to the area: the stores are handed back, and the firmware does them in the order given.
+// The calls that firmware and the tablet make (documents 01 and 02), on the bytes of a climate sheet and a block sheet, the journal's area and lent
+// buffers. Each gives the first refusal that applies, with document 01's number. Nothing here stores to the area: the stores are handed back, and the
+// firmware does them in the order given.
 use decades::Tabled;
 use journal::Entry;
 use journal::Lost;
