@@ -15,6 +15,7 @@ pub mod Walking
 pub mod Entering
 pub mod Standing
 pub mod Answers
+pub mod Roles
 pub mod Crash
 pub mod Matching
 pub mod Numbering

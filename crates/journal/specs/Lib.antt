@@ -4,6 +4,7 @@ pub mod Opening
 pub mod Specified
 pub mod Calls
 pub mod Loss
+pub mod Roles
 pub mod Book
 pub mod History
 pub mod Sums
