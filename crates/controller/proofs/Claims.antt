@@ -1,6 +1,8 @@
 -- The proofs of `specs/Claims.antt`, in its order.
 use mathlib.Core.Path.{_≡_, refl, sym, ap, _∙_, subst⁻¹}
-use mathlib.Core.List.{List, [], map}
+use mathlib.Core.Bool.{cond}
+use mathlib.Core.Logic.{inl, inr}
+use mathlib.Core.List.{List, [], _++_, map}
 use Prim.Native.Nat.{ℕ, _≤_}
 use native.Mathlib.Omega.{arith}
 use lib.Ieee.{ofBits, le}
@@ -11,15 +13,20 @@ use Rattle.season.specs.Calendar.{nextDay, daysOn}
 use Rattle.season.specs.Day.{dateOf, stageOf, inStage, kcOf, cropNeed, rainOn}
 use Rattle.season.specs.Closing.{closeDay}
 use Rattle.season.specs.SmallSheet as season
+use Rattle.verdict.specs.declared.Verdict.{Verdict}
+use Rattle.verdict.specs.declared.Verdict.the-variants.{Accepted}
 use Rattle.verdict.specs.declared.Verdict.the-variants as verdict
-use Rattle.verdict.specs.Refusals.{orRefused, verdictOf}
+use Rattle.verdict.specs.Refusals.{orRefused, firstOf, verdictOf}
 use Rattle.leb128.specs.Groups.{encode, overGroups, overIn, groupCount}
 use Rattle.leb128.specs.Forms.{decode, decodeFrom, below}
 use Rattle.sheet.specs.Numbers.{before, numbers, after, further, ended, numbersIn, written}
 use Rattle.fields.specs.Fields.{outside, lowestOutside, seasonOf, merged}
-use Rattle.fields.specs.Refusals.{climateVerdict, blockVerdict}
+use Rattle.fields.specs.Refusals.{climateLines, blockLines, climateVerdict, blockVerdict}
 use Rattle.sheet.specs.Sheets.{climateOf, blockOf, sheetIs, blockWith, sheetsOf}
 use Rattle.sheet.specs.Cases.{smallClimate, smallBlock}
+use Rattle.sheet.specs.declared.Written.{Written}
+use Rattle.sheet.specs.declared.Written.the-variants as writer
+use Rattle.sheet.specs.Writing.{sheetFields, writeLines, climateWritten, blockWritten, writeVerdict}
 use Rattle.sheet.proofs.Claims as sheets
 use Rattle.journal.specs.declared.Entry.{Entry}
 use Rattle.journal.specs.declared.Opening.{Opening}
@@ -31,12 +38,14 @@ use Rattle.journal.specs.Entries.{tagOf, sourceTag, numberOf, start, closing, e
 use Rattle.journal.specs.Entries as journal
 use Rattle.journal.specs.Opening as openings
 use Rattle.journal.specs.Opening.{value, least, starts, entryOf, only, entryAt, replay, replayed, isBlank, trim, tornAt, behind, opening}
-use Rattle.journal.specs.Calls.{noStores, recordedWith, recorded, wipePlaces, openedWith, openedOn, opened, wipe, wipesIn, openedNumbers}
+use Rattle.journal.specs.Calls.{noStores, storesOf, recordedWith, recordedOn, recorded, wipePlaces, openedWith, openedOn, opened, wipe, wipesIn, openedNumbers}
+use Rattle.journal.specs.Roles.{Line, lookLines, enterLines, mayMend, byRole}
+use Rattle.journal.specs.History.{withoutStores}
 use Rattle.journal.specs.declared.Lost.{Lost}
 use Rattle.journal.specs.declared.Lost.the-variants as losing
 use Rattle.journal.specs.Loss.{lost, lossNumbers}
 use Rattle.journal.specs.Specified.{Opens}
-use Rattle.journal.specs.Claims.{RecordedOccurs, OpenedOccurs}
+use Rattle.journal.specs.Claims.{OpeningOccurs, RecordedOccurs, CountOccurs, OpenedOccurs}
 use Rattle.journal.proofs.Answers.{opened-opening, opened-clean, opened-refused}
 use Rattle.journal.proofs.Claims as journals
 use Rattle.planner.specs.declared.Planned.{Planned}
@@ -55,13 +64,15 @@ use Rattle.controller.specs.declared.Probed.{Probed}
 use Rattle.controller.specs.declared.Probed.the-variants.{Depletions}
 use Rattle.controller.specs.declared.Probed.the-variants as probed
 use Rattle.controller.specs.Calls.{plannedOn, probedOn, probedNumbers, sheetOpened, sheetRecorded, sheetPlanned, sheetTabled, onSheets}
-use Rattle.controller.specs.Refusals.{openLines, lossLines, entryLines, planLines, probeLines, tableLines}
+use Rattle.controller.specs.Roles.{openedBy, recordedBy, plannedBy, tabledBy}
+use Rattle.controller.specs.Refusals.{onLines, openLines, lossLines, entryLines, planLines, probeLines, tableLines}
 use Rattle.controller.specs.OneSheet.{SameAsOneSheet}
-use Rattle.controller.specs.Cases.{cases, leapCases, probeCases}
+use Rattle.controller.specs.Cases.{cases, leapCases, probeCases, roleCases}
 use Rattle.controller.specs.Claims.{Claims}
 use Rattle.controller.proofs.Sheets.{on-sheets, as-on-sheet}
+use Rattle.controller.proofs.Roles.{same-for-roles, look-by, enter-by, look-verdict, enter-verdict, either-way, role-1-keeps}
 use Rattle.controller.proofs.Demands.{opens, plan-right, demand-3}
-use Rattle.controller.proofs.Refusing.{sheets-verdict, numbers-refused, planVerdict, tableVerdict, open-verdict, entry-verdict, loss-verdict, plan-verdict, probe-verdict, table-verdict, entry-refused, plan-refused-keeps, table-refused-keeps}
+use Rattle.controller.proofs.Refusing.{sheets-verdict, looks-verdict, numbers-refused, planVerdict, tableVerdict, open-verdict, entry-verdict, loss-verdict, plan-verdict, probe-verdict, table-verdict, entry-refused, plan-refused-keeps, table-refused-keeps}
 
 -- The calls' two ways: a refused pair, and an accepted season.
 module _ (climate block : List ℕ) where
@@ -105,7 +116,7 @@ module _ (climate block : List ℕ) where
     opened-occurs =
         on-sheets noOpening (λ s. opened s area) climate block OpenedOccurs
         (λ number value v. let r = sheets.claims .refused-number climate block number value v in
-        record { found = (r .0, omega arith); placed = record { size = refl; few = omega arith; rest = refl }; none = refl })
+        record { found = inl (r .0, omega arith); placed = record { size = refl; few = omega arith; rest = refl }; none = refl })
         (λ s v q o. journals.claims .opened-occurs s o area)
 
     recorded-occurs : (e : Entry) → RecordedOccurs (sheetRecorded climate block area e)
@@ -126,6 +137,99 @@ module _ (climate block : List ℕ) where
       on-sheets (λ m w. (table.Refused m w, out)) (λ s. tabled s out) climate block (λ (a : Tabled × List ℕ). tableVerdict a ≡ verdict.Refused number value → a .1 ≡ out)
       (λ m w v h. refl)
       (λ s v q o h. table-refused-keeps s out number value h)
+
+-- By a role: refused by it, or as without one.
+module _ (role : ℕ) where
+  module _ (climate block : List ℕ) where
+    module _ (area : List ℕ) where
+      abbrev unopened : ℕ → ℕ → Opened
+      unopened number value = openedWith (found.Refused number value) []
+
+      abbrev at-sheets : Opened
+      at-sheets = sheetOpened climate block area
+
+      -- What holds of 20, of the opening and of the opening without stores.
+      opening-by-role : (P : Opened → Type 0) → (P (unopened 20 0)) → P at-sheets → P (withoutStores at-sheets) → P (openedBy role climate block area)
+      opening-by-role P no-role with-stores without =
+          look-by P unopened (cond (mayMend role) at-sheets (withoutStores at-sheets)) role no-role (either-way P at-sheets (mayMend role) with-stores without)
+
+      open-refuses-by : verdictOf (openings.numbersOf (openedBy role climate block area .opening)) ≡ firstOf Accepted (onLines (lookLines role) climate block (openLines area))
+      open-refuses-by =
+          let verdictIn : Opened → Verdict = λ r. verdictOf (openings.numbersOf (r .opening)) in
+          let so = sheets-verdict climate block verdictIn unopened (λ s. opened s area) (openLines area) numbers-refused (λ s o. open-verdict s area) in
+          look-verdict verdictIn unopened numbers-refused (cond (mayMend role) at-sheets (withoutStores at-sheets)) (onLines [] climate block (openLines area))
+          (either-way (λ r. verdictIn r ≡ firstOf Accepted (onLines [] climate block (openLines area))) at-sheets (mayMend role) so so) role
+
+      open-no-stores-by : (number value : ℕ) → openedBy role climate block area .opening ≡ found.Refused number value → openedBy role climate block area ≡ unopened number value
+      open-no-stores-by number value =
+          opening-by-role (λ (r : Opened). r .opening ≡ found.Refused number value → r ≡ unopened number value)
+          (λ h. ap (λ (o : Opening). openedWith o []) h)
+          (open-no-stores climate block area number value)
+          (λ h. ap (λ (o : Opening). openedWith o []) h)
+
+      none-counted : (o : Opening) → CountOccurs o 0
+      none-counted (found.Clean l) = refl
+      none-counted (found.Torn l place) = tt
+      none-counted (found.Refused number value) = refl
+
+      opened-occurs-by : OpenedOccurs (openedBy role climate block area)
+      opened-occurs-by =
+          let no-places : (o : Opening) → OpeningOccurs o → OpenedOccurs (openedWith o [])
+          = λ o h. record { found = h; placed = record { size = refl; few = omega arith; rest = refl }; none = none-counted o } in
+          let so = opened-occurs climate block area in
+          opening-by-role OpenedOccurs (no-places (found.Refused 20 0) (inr refl)) so (no-places (at-sheets .opening) (so .found))
+
+      module _ (e : Entry) where
+        abbrev unrecorded : ℕ → ℕ → Recorded
+        unrecorded number value = recordedWith (verdict.Refused number value) noStores
+
+        abbrev recording : Recorded
+        recording = sheetRecorded climate block area e
+
+        entry-refuses-by : recordedBy role climate block area e .verdict ≡ firstOf Accepted (onLines (enterLines role) climate block (entryLines area e))
+        unfolding recordedWith
+        entry-refuses-by =
+            enter-verdict (λ (r : Recorded). r .verdict) unrecorded (λ number value h. refl) recording (onLines [] climate block (entryLines area e))
+            (sheets-verdict climate block (λ (r : Recorded). r .verdict) unrecorded (λ s. recorded s area e) (entryLines area e) (λ number value h. refl) (λ s o. entry-verdict s area e)) role
+
+        entry-no-stores-by : (number value : ℕ) → recordedBy role climate block area e .verdict ≡ verdict.Refused number value
+            → recordedBy role climate block area e ≡ unrecorded number value
+        unfolding recordedWith
+        entry-no-stores-by number value =
+            enter-by (λ (r : Recorded). r .verdict ≡ verdict.Refused number value → r ≡ unrecorded number value) unrecorded recording role
+            (λ m few h. let i : m ≡ number = cc in let j : 0 ≡ value = cc in rw (i, ← j))
+            (entry-no-stores climate block area e number value)
+
+        recorded-occurs-by : RecordedOccurs (recordedBy role climate block area e)
+        unfolding recordedWith
+        recorded-occurs-by =
+            enter-by RecordedOccurs unrecorded recording role (λ number few. (omega arith, refl)) (recorded-occurs climate block area e)
+
+      plan-unaltered-by : (out : List ℕ) (number value : ℕ) → planVerdict (plannedBy role climate block area out) ≡ verdict.Refused number value → plannedBy role climate block area out .1 ≡ out
+      plan-unaltered-by out number value =
+          look-by (λ (a : Planned × List ℕ). planVerdict a ≡ verdict.Refused number value → a .1 ≡ out) (λ m w. (planned.Refused m w, out)) (sheetPlanned climate block area out) role
+          (λ h. refl)
+          (plan-unaltered climate block area out number value)
+
+    table-unaltered-by : (out : List ℕ) (number value : ℕ) → tableVerdict (tabledBy role climate block out) ≡ verdict.Refused number value → tabledBy role climate block out .1 ≡ out
+    table-unaltered-by out number value =
+        look-by (λ (a : Tabled × List ℕ). tableVerdict a ≡ verdict.Refused number value → a .1 ≡ out) (λ m w. (table.Refused m w, out)) (sheetTabled climate block out) role
+        (λ h. refl)
+        (table-unaltered climate block out number value)
+
+  -- A writer, whose own refusals and unaltered buffer are the sheet's claims.
+  module _ (out : List ℕ) (made : Written × List ℕ) where
+    abbrev unwritten : ℕ → ℕ → Written × List ℕ
+    unwritten number value = (writer.Refused number value, out)
+
+    write-refuses-by : (lines : List Line) → writeVerdict (made .0) ≡ firstOf Accepted lines
+        → writeVerdict (byRole (lookLines role) unwritten made .0) ≡ firstOf Accepted (lookLines role ++ lines)
+    write-refuses-by lines h = look-verdict (λ (a : Written × List ℕ). writeVerdict (a .0)) unwritten (λ number value i. refl) made lines h role
+
+    write-unaltered-by : (number value : ℕ) → (made .0 ≡ writer.Refused number value → made .1 ≡ out)
+        → byRole (lookLines role) unwritten made .0 ≡ writer.Refused number value → byRole (lookLines role) unwritten made .1 ≡ out
+    write-unaltered-by number value h =
+        look-by (λ (a : Written × List ℕ). a .0 ≡ writer.Refused number value → a .1 ≡ out) unwritten made role (λ i. refl) h
 
 cases-hold : map (λ (c : List ℕ × List ℕ). c .0) cases ≡ map (λ (c : List ℕ × List ℕ). c .1) cases
 unfolding cases onSheets plannedOn sheetsOf blockWith climateOf blockOf merged lowestOutside outside numbersIn further after ended numbers before written decode decodeFrom below encode overGroups overIn groupCount orRefused opening replayed replay behind isBlank trim tornAt entryAt entryOf only value least starts start enter refusal accepts passes tagOf sourceTag numberOf journal.outside opened openedOn wipePlaces openedNumbers wipesIn answer answerTo byWalks onWalk pad walk ending watered irrigated sum dateOf kcOf cropNeed rainOn nextDay daysOn ramp rampZ
@@ -155,6 +259,10 @@ probe-cases-hold : map (λ (c : List ℕ × List ℕ). c .0) probeCases ≡ map 
 unfolding probeCases onSheets merged probedOn readingOf pairOf contentOf isContent tenThousandths measured le ofBits closing closeDay stageOf inStage decode decodeFrom below encode overGroups overIn groupCount orRefused opening replayed replay behind isBlank trim tornAt entryAt entryOf only value least starts start enter refusal accepts passes tagOf sourceTag numberOf journal.outside dateOf kcOf cropNeed nextDay daysOn ramp rampZ
 probe-cases-hold = rw (probed-read-20, probed-read-40) refl
 
+role-cases-hold : map (λ (c : List ℕ × List ℕ). c .0) roleCases ≡ map (λ (c : List ℕ × List ℕ). c .1) roleCases
+unfolding roleCases byRole lookLines enterLines onSheets sheetsOf blockWith climateOf blockOf merged lowestOutside outside numbersIn further after ended numbers before written decode decodeFrom below encode overGroups overIn groupCount orRefused opening replayed replay behind isBlank trim tornAt entryAt entryOf only value least starts start enter refusal accepts passes tagOf sourceTag numberOf journal.outside opened openedOn wipePlaces recorded recordedOn recordedWith storesOf
+role-cases-hold = refl
+
 same-as-one-sheet : (climate block : List ℕ) → sheetsOf climate block .verdict ≡ verdict.Accepted → SameAsOneSheet climate block
 same-as-one-sheet climate block v = record {
   opens = λ area. as-on-sheet _ _ climate block v;
@@ -173,29 +281,28 @@ probed-one (probed.Refused number value) (Depletions l m) e = absurd (omega (ari
 probed-one (probed.Refused m w) (probed.Refused number value) e = let p : m ≡ number = cc in let q : w ≡ value = cc in rw (p, q)
 
 pub claims : Claims
-unfolding recordedWith
 claims = record {
   demand-3 = demand-3;
-  open-refuses = λ climate block area.
-      sheets-verdict climate block (λ (r : Opened). verdictOf (openings.numbersOf (r .opening))) (λ number value. openedWith (found.Refused number value) []) (λ s. opened s area) (openLines area) numbers-refused (λ s o. open-verdict s area);
-  entry-refuses = λ climate block area e.
-      sheets-verdict climate block (λ (r : Recorded). r .verdict) (λ number value. recordedWith (verdict.Refused number value) noStores) (λ s. recorded s area e) (entryLines area e) (λ number value h. refl) (λ s o. entry-verdict s area e);
-  loss-refuses = λ climate block area ky.
-      sheets-verdict climate block (λ (r : Lost). verdictOf (lossNumbers r)) losing.Refused (λ s. lost s area ky) (lossLines area ky) numbers-refused (λ s o. loss-verdict s area ky);
-  plan-refuses = λ climate block area out.
-      sheets-verdict climate block planVerdict (λ number value. (planned.Refused number value, out)) (λ s. plannedOn s out (opening s area)) (planLines area (length out)) numbers-refused (λ s o. plan-verdict s area out);
-  probe-refuses = λ climate block area shallow deep f.
-      sheets-verdict climate block (λ (r : Probed). verdictOf (probedNumbers r)) probed.Refused (λ s. probedOn s (readingOf shallow deep) f (opening s area)) (probeLines area shallow deep f) numbers-refused (λ s o. probe-verdict s area shallow deep f);
-  table-refuses = λ climate block out.
-      sheets-verdict climate block tableVerdict (λ number value. (table.Refused number value, out)) (λ s. tabled s out) (tableLines (length out)) numbers-refused (λ s o. table-verdict s out);
-  climate-write-refuses = sheets.claims .climate-write-refuses;
-  block-write-refuses = sheets.claims .block-write-refuses;
-  open-no-stores = open-no-stores;
-  entry-no-stores = entry-no-stores;
-  plan-unaltered = plan-unaltered;
-  table-unaltered = table-unaltered;
-  climate-write-unaltered = sheets.claims .climate-write-unaltered;
-  block-write-unaltered = sheets.claims .block-write-unaltered;
+  role-1-keeps = role-1-keeps;
+  same-for-roles = same-for-roles;
+  open-refuses = open-refuses-by;
+  entry-refuses = entry-refuses-by;
+  loss-refuses = λ role climate block area ky.
+      looks-verdict climate block role (λ (r : Lost). verdictOf (lossNumbers r)) losing.Refused (λ s. lost s area ky) (lossLines area ky) numbers-refused (λ s o. loss-verdict s area ky);
+  plan-refuses = λ role climate block area out.
+      looks-verdict climate block role planVerdict (λ number value. (planned.Refused number value, out)) (λ s. plannedOn s out (opening s area)) (planLines area (length out)) numbers-refused (λ s o. plan-verdict s area out);
+  probe-refuses = λ role climate block area shallow deep f.
+      looks-verdict climate block role (λ (r : Probed). verdictOf (probedNumbers r)) probed.Refused (λ s. probedOn s (readingOf shallow deep) f (opening s area)) (probeLines area shallow deep f) numbers-refused (λ s o. probe-verdict s area shallow deep f);
+  table-refuses = λ role climate block out.
+      looks-verdict climate block role tableVerdict (λ number value. (table.Refused number value, out)) (λ s. tabled s out) (tableLines (length out)) numbers-refused (λ s o. table-verdict s out);
+  climate-write-refuses = λ role c out. write-refuses-by role out (climateWritten c out) (writeLines (climateLines c) (written c) (length out)) (sheets.claims .climate-write-refuses c out);
+  block-write-refuses = λ role vs out. write-refuses-by role out (blockWritten vs out) (writeLines (blockLines (sheetFields vs)) (written (sheetFields vs)) (length out)) (sheets.claims .block-write-refuses vs out);
+  open-no-stores = open-no-stores-by;
+  entry-no-stores = entry-no-stores-by;
+  plan-unaltered = plan-unaltered-by;
+  table-unaltered = table-unaltered-by;
+  climate-write-unaltered = λ role c out number value. write-unaltered-by role out (climateWritten c out) number value (sheets.claims .climate-write-unaltered c out number value);
+  block-write-unaltered = λ role vs out number value. write-unaltered-by role out (blockWritten vs out) number value (sheets.claims .block-write-unaltered vs out number value);
   clean-no-stores = clean-no-stores;
   torn-stores = torn-stores;
   plan-right = λ climate block area out l v o day room. plan-right climate block v area out l (sym (opens climate block v area) ∙ o) day room;
@@ -209,10 +316,11 @@ claims = record {
   entries = journals.claims;
   opening-says = λ climate block area v h.
       subst⁻¹ (Opens (sheetsOf climate block .season) area) (opens climate block v area) (journals.claims .opening-says (sheetsOf climate block .season) area h);
-  opened-occurs = opened-occurs;
-  recorded-occurs = recorded-occurs;
+  opened-occurs = opened-occurs-by;
+  recorded-occurs = recorded-occurs-by;
   probed-one-to-one = probed-one;
   cases-hold = cases-hold;
   leap-cases-hold = leap-cases-hold;
   probe-cases-hold = probe-cases-hold;
+  role-cases-hold = role-cases-hold;
 }

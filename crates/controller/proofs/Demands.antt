@@ -14,6 +14,7 @@ use Rattle.verdict.specs.declared.Verdict.the-variants as verdict
 use Rattle.verdict.specs.Refusals.{orRefused}
 use Rattle.sheet.specs.Sheets.{sheetsOf}
 use Rattle.sheet.proofs.Accepted.{accepted-season}
+use Rattle.journal.specs.declared.Entry.{Entry}
 use Rattle.journal.specs.declared.Ledger.{Ledger}
 use Rattle.journal.specs.declared.Opened.{Opened}
 use Rattle.journal.specs.declared.Opening.the-variants as found
@@ -24,9 +25,10 @@ use Rattle.journal.specs.Loss.{lossesOf, lostOn, lost}
 use Rattle.journal.specs.Opening.{opening}
 use Rattle.journal.specs.Calls.{noStores, recordedWith, recorded, openedWith, opened}
 use Rattle.journal.specs.Book.{Step, emptyBook, ledgerOf, bookAfter, foundIn}
-use Rattle.journal.specs.History.{Device, journal, blankArea, areaAfter}
+use Rattle.journal.specs.History.{Device, recordedAs, openedAs, journal, blankArea, areaAfter}
 use Rattle.journal.specs.Claims.{Kept}
 use Rattle.journal.proofs.Answers.{opened-opening}
+use Rattle.journal.proofs.Roles.{opens-same}
 use Rattle.journal.proofs.Claims as journals
 use Rattle.planner.specs.declared.Planned.{Planned}
 use Rattle.planner.specs.declared.Planned.the-variants.{Made, Refused}
@@ -40,10 +42,11 @@ use Rattle.probes.specs.Contents.{readingOf}
 use Rattle.probes.specs.Depletion.{measured}
 use Rattle.controller.specs.declared.Probed.the-variants.{Depletions}
 use Rattle.controller.specs.declared.Probed.the-variants as probed
-use Rattle.controller.specs.Calls.{plannedOn, probedOn, sheetOpened, sheetLost, sheetPlanned, sheetProbed}
+use Rattle.controller.specs.Calls.{plannedOn, probedOn, sheetOpened, sheetRecorded, sheetLost, sheetPlanned, sheetProbed}
 use Rattle.controller.specs.Refusals.{planOf}
 use Rattle.controller.specs.Demands.{calls, numbered, PlanKept, Demand3}
 use Rattle.controller.proofs.Sheets.{sheets-accepted}
+use Rattle.controller.proofs.Roles.{same-for-roles}
 
 -- ---- a plan from a ledger, in a buffer that is long enough
 
@@ -110,11 +113,12 @@ module _ (climate block : List ℕ) (v : sheetsOf climate block .verdict ≡ ver
   same-opened : (area : List ℕ) → sheetOpened climate block area ≡ opened s area
   same-opened area = sheets-accepted (λ number value. openedWith (found.Refused number value) []) (λ t. opened t area) climate block (sheetsOf climate block) refl v
 
+  same-recorded : (area : List ℕ) (e : Entry) → sheetRecorded climate block area e ≡ recorded s area e
+  same-recorded area e = sheets-accepted (λ number value. recordedWith (verdict.Refused number value) noStores) (λ t. recorded t area e) climate block (sheetsOf climate block) refl v
+
+  -- So they are as a role has them.
   same-calls : calls climate block ≡ journal s
-  same-calls = λ i. record {
-    records = λ area e. sheets-accepted (λ number value. recordedWith (verdict.Refused number value) noStores) (λ t. recorded t area e) climate block (sheetsOf climate block) refl v i;
-    opened = λ area. same-opened area i;
-  }
+  same-calls = λ i. record { records = λ role area e. recordedAs role (same-recorded area e i); opened = λ role area. openedAs role (same-opened area i) }
 
   pub opens : (area : List ℕ) → sheetOpened climate block area .opening ≡ opening s area
   opens area = ap (λ (r : Opened). r .opening) (same-opened area) ∙ opened-opening s area
@@ -147,18 +151,20 @@ module _ (climate block : List ℕ) (v : sheetsOf climate block .verdict ≡ ver
       sheets-accepted probed.Refused (λ t. probedOn t (readingOf shallow deep) f (opening t area)) climate block (sheetsOf climate block) refl v
       ∙ rw (o, r, probedOn, le-ltb (seasonDays s) (l .day) day, le-ltb f 1 low, le-ltb 6000 f high)
 
-  pub demand-3 : (size : ℕ) → size ≤ 8192 → (steps : List Step) (out : List ℕ) → Demand3 climate block size steps out
+  pub demand-3 : (size : ℕ) → size ≤ 8192 → (steps : List Step) (out : List ℕ) (role : ℕ) → 1 ≤ role → role ≤ 3 → Demand3 climate block size steps out role
   unfolding foundIn
-  demand-3 size h steps out =
+  demand-3 size h steps out role from to =
       let k = bookAfter s size emptyBook steps in
-      let kept : Kept (calls climate block) s size steps
-      = subst⁻¹ (λ (d : Device). Kept d s size steps) same-calls (journals.claims .history-kept s (accepted-season climate block v) size h steps) in
+      let kept : Kept (calls climate block) s size steps role
+      = subst⁻¹ (λ (d : Device). Kept d s size steps role) same-calls (journals.claims .history-kept s (accepted-season climate block v) size h steps role from to) in
       let area = areaAfter (calls climate block) (blankArea size) steps in
       let clean : k .loose ≡ [] → opening s area ≡ found.Clean (ledgerOf s k)
-      = λ none. sym (opens area) ∙ kept .opens-as ∙ ap (foundIn (ledgerOf s k)) none in
+      = λ none. sym (opens-same role from to (sheetOpened climate block area) ∙ opens area) ∙ kept .opens-as ∙ ap (foundIn (ledgerOf s k)) none in
       record {
         kept = kept;
-        plans = λ none day room. plan-right area out (ledgerOf s k) (clean none) day room;
-        losses = λ ky low high none. losses-clean area ky (ledgerOf s k) (clean none) low high;
-        probes = λ shallow deep f w low high r none day. probes-clean area shallow deep f w (ledgerOf s k) (clean none) low high r day;
+        plans = λ none day room.
+            subst⁻¹ (PlanKept s (ledgerOf s k) out) (same-for-roles .plans role from to climate block area out) (plan-right area out (ledgerOf s k) (clean none) day room);
+        losses = λ ky low high none. same-for-roles .loses role from to climate block area ky ∙ losses-clean area ky (ledgerOf s k) (clean none) low high;
+        probes = λ shallow deep f w low high r none day.
+            same-for-roles .probes role from to climate block area shallow deep f ∙ probes-clean area shallow deep f w (ledgerOf s k) (clean none) low high r day;
       }

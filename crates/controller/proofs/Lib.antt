@@ -1,4 +1,5 @@
 pub mod Sheets
+pub mod Roles
 pub mod Plans
 pub mod Probing
 pub mod Demands

@@ -31,6 +31,7 @@ use Rattle.journal.specs.Opening.{opening}
 use Rattle.journal.specs.Specified.{bytesAll, Says}
 use Rattle.journal.specs.Specified as said
 use Rattle.journal.specs.Calls.{noStores, recordedWith, storesOf, recordedOn, recorded, opened}
+use Rattle.journal.specs.Roles.{Line, lookLines, byRole}
 use Rattle.journal.specs.Loss as yield
 use Rattle.journal.specs.Loss.{lossesOf, lossRefusals, lostUnless, lostOn, lossNumbers}
 use Rattle.journal.proofs.Answers.{opened-opening}
@@ -54,13 +55,14 @@ use Rattle.probes.specs.Depletion.{measured}
 use Rattle.probes.proofs.Claims as probings
 use Rattle.controller.specs.Calls.{onSheets, plannedOn, capacityOutside, probeRefusals, probedUnless, probedOn, probedNumbers}
 use Rattle.controller.specs.declared.Probed.the-variants.{Depletions}
-use Rattle.controller.specs.Refusals.{Line, onLines, damaged, tornLine, ledgerIn, openLines, lossLines, entryLines, lost, planOf, roomLines, planLines, probeLines, tableLines}
+use Rattle.controller.specs.Refusals.{onLines, damaged, tornLine, ledgerIn, openLines, lossLines, entryLines, lost, planOf, roomLines, planLines, probeLines, tableLines}
 use Rattle.controller.proofs.Sheets.{on-sheets}
+use Rattle.controller.proofs.Roles.{look-verdict}
 
--- Refusals 1 to 7 come first, for every call; the call's own go on from the sheets' verdict.
+-- Behind the role's, refusals 1 to 7 come first; the call's own go on from the sheets' verdict.
 module _ (climate block : List ℕ) where
   on-lines : (lines : Season → List Line)
-      → firstOf Accepted (onLines climate block lines) ≡ firstOf (sheetsOf climate block .verdict) (lines (sheetsOf climate block .season))
+      → firstOf Accepted (onLines [] climate block lines) ≡ firstOf (sheetsOf climate block .verdict) (lines (sheetsOf climate block .season))
   on-lines lines =
       first-append Accepted (pairLines climate block) (lines (sheetsOf climate block .season))
       ∙ ap (λ (v : Verdict). firstOf v (lines (sheetsOf climate block .season))) (sym (sheets.claims .refuses-first climate block))
@@ -68,12 +70,20 @@ module _ (climate block : List ℕ) where
   pub sheets-verdict : {A : Type 0} (verdictIn : A → Verdict) (refuse : ℕ → ℕ → A) (reply : Season → A) (lines : Season → List Line)
       → ((number value : ℕ) → 1 ≤ number → verdictIn (refuse number value) ≡ Refused number value)
       → ((s : Season) → AcceptedSeason s → verdictIn (reply s) ≡ firstOf Accepted (lines s))
-      → verdictIn (onSheets refuse reply climate block) ≡ firstOf Accepted (onLines climate block lines)
+      → verdictIn (onSheets refuse reply climate block) ≡ firstOf Accepted (onLines [] climate block lines)
   sheets-verdict verdictIn refuse reply lines no-sheets of-season =
-      on-sheets refuse reply climate block (λ a. verdictIn a ≡ firstOf Accepted (onLines climate block lines))
+      on-sheets refuse reply climate block (λ a. verdictIn a ≡ firstOf Accepted (onLines [] climate block lines))
       (λ number value e. no-sheets number value (sheets.claims .refused-number climate block number value e .0)
       ∙ sym (on-lines lines ∙ rw e (first-refused number value (lines (sheetsOf climate block .season)))))
       (λ s e q o. of-season s o ∙ sym (on-lines lines ∙ rw (e, q)))
+
+  -- With the role's in front.
+  pub looks-verdict : (role : ℕ) {A : Type 0} (verdictIn : A → Verdict) (refuse : ℕ → ℕ → A) (reply : Season → A) (lines : Season → List Line)
+      → ((number value : ℕ) → 1 ≤ number → verdictIn (refuse number value) ≡ Refused number value)
+      → ((s : Season) → AcceptedSeason s → verdictIn (reply s) ≡ firstOf Accepted (lines s))
+      → verdictIn (byRole (lookLines role) refuse (onSheets refuse reply climate block)) ≡ firstOf Accepted (onLines (lookLines role) climate block lines)
+  looks-verdict role verdictIn refuse reply lines no-sheets of-season =
+      look-verdict verdictIn refuse no-sheets (onSheets refuse reply climate block) (onLines [] climate block lines) (sheets-verdict verdictIn refuse reply lines no-sheets of-season) role
 
 -- A refusal's number and value are the verdict of an answer that begins with them.
 pub numbers-refused : (number value : ℕ) → 1 ≤ number → verdictOf (number ∷ value ∷ []) ≡ Refused number value

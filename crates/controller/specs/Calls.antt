@@ -1,5 +1,6 @@
--- The calls on bytes. Refusals 1 to 7 concern every call that is given a climate sheet and a block sheet: it gives the first of them that applies, and
--- else what it answers of their season. The two writers are given numbers: `climateWritten` and `blockWritten` of sheet's specs/Writing.antt.
+-- The calls on bytes, as a role that may make them has them (Roles has them by any role). Refusals 1 to 7 concern every call that is given a climate sheet
+-- and a block sheet: it gives the first of them that applies, and else what it answers of their season. The two writers are given numbers:
+-- `climateWritten` and `blockWritten` of sheet's specs/Writing.antt.
 use Prim.Native.Nat.{ℕ}
 use mathlib.Core.Bool.{Bool, cond, _||_}
 use mathlib.Core.List.{List, [], _∷_}
@@ -79,14 +80,14 @@ probedUnless Accepted p = p
 probedUnless (Refused number value) p = probed.Refused number value
 
 -- By an open day and its depletion: the ledger's, then the measured one with that day's Z and T.
-abbrev pub probedBy : Season → Reading → ℕ → ℕ → ℕ → Probed
-probedBy s r f day depletion =
+abbrev pub probedFrom : Season → Reading → ℕ → ℕ → ℕ → Probed
+probedFrom s r f day depletion =
     probedUnless (firstOf Accepted (probeRefusals (ltb (seasonDays s) day) r f))
     (Depletions depletion (measured f (contentIn r) (rootOn s day) (totalOn s day)))
 
 -- On a journal that opens so: 8 to 10, then 11, 18 and 19. Waiting water plays no part.
 unfoldable pub probedOn : Season → Reading → ℕ → Opening → Probed
-probedOn s r f (found.Clean l) = probedBy s r f (l .day) (l .depletion)
+probedOn s r f (found.Clean l) = probedFrom s r f (l .day) (l .depletion)
 probedOn s r f (found.Torn l place) = probed.Refused 10 place
 probedOn s r f (found.Refused number place) = probed.Refused number place
 

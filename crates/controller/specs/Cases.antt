@@ -1,4 +1,4 @@
--- Document 01, 'Numbers to hold against it': every case marked †, in its order; then those of a season over the end of February and of the probes (document 02, T-06, T-07). Left, what the calls and their definitions answer; right, the document's numbers.
+-- Document 01, 'Numbers to hold against it': every case marked †, in its order; then those of a season over the end of February, of the probes and of roles (document 02, T-06, T-07, T-09). Left, what the calls and their definitions answer; right, the document's numbers.
 use Prim.Native.Nat.{ℕ, _*_}
 use mathlib.Core.List.{List, [], _∷_, _++_}
 use lib.Ieee.{binary32, ofBits}
@@ -14,6 +14,9 @@ use Rattle.sheet.specs.Numbers.{written}
 use Rattle.fields.specs.Fields.{seasonOf, merged}
 use Rattle.sheet.specs.Sheets.{sheetsOf}
 use Rattle.sheet.specs.Cases.{smallClimate, smallBlock, leapClimate, leapBlock}
+use Rattle.journal.specs.declared.Source.the-variants.{Rain}
+use Rattle.journal.specs.declared.Entry.the-variants as entry
+use Rattle.journal.specs.Opening as openings
 use Rattle.journal.specs.Calls.{openedNumbers}
 use Rattle.planner.specs.declared.Planned.{Planned}
 use Rattle.planner.specs.Answer as planner
@@ -22,6 +25,7 @@ use Rattle.decades.specs.Table as decades
 use Rattle.probes.specs.declared.Probe.{Probe}
 use Rattle.probes.specs.declared.Probe.the-variants.{Water, Low, Silent}
 use Rattle.controller.specs.Calls.{sheetOpened, sheetPlanned, sheetProbed, probedNumbers, sheetTabled}
+use Rattle.controller.specs.Roles.{openedBy, recordedBy}
 
 -- The small pair's bytes; its block with these turns, which are the block's last number.
 abbrev climate : List ℕ
@@ -162,4 +166,35 @@ probeCases =
     ∷ (probed 20 (replicate 8189 0xFF) (water 0x7fc0_0000) Silent 3000, 8 ∷ 0 ∷ [])
     ∷ (probed 20 (0x01 ∷ 0xAC ∷ []) (water 0x7fc0_0000) Silent 3000, 10 ∷ 0 ∷ [])
     ∷ (probed 20 (0x03 ∷ 0x01 ∷ 0x03 ∷ 0x02 ∷ 0x03 ∷ 0x03 ∷ 0x03 ∷ 0x04 ∷ []) Silent Silent 0, 11 ∷ 0 ∷ [])
+    ∷ []
+
+-- ---- the roles
+
+-- Every part of an opening's answer, count and places too, on a journal that begins so; and of rain's.
+abbrev opensBy : ℕ → List ℕ → List ℕ → List ℕ
+opensBy role sheet area =
+    let r = openedBy role sheet (block 127) area in
+    openings.numbersOf (r .opening) ++ (r .count ∷ r .places)
+
+abbrev rainBy : ℕ → List ℕ → ℕ → List ℕ
+rainBy role area amount =
+    let r = recordedBy role climate (block 127) area (entry.Water Rain amount) in
+    verdict.numbersOf (r .verdict) ++ (r .stores .start ∷ r .stores .count ∷ r .stores .bytes)
+
+unfoldable pub roleCases : List (List ℕ × List ℕ)
+roleCases =
+    -- 01 AC FF FF: role 3 is handed places 1 and 0; roles 1 and 2 get the same ledger and nothing; 0 and 4 are no roles.
+    (opensBy 3 climate (0x01 ∷ 0xAC ∷ 0xFF ∷ 0xFF ∷ []), 10 ∷ 0 ∷ 1 ∷ (replicate 17 0 ++ (2 ∷ 1 ∷ 0 ∷ 0 ∷ [])))
+    ∷ (opensBy 1 climate (0x01 ∷ 0xAC ∷ 0xFF ∷ 0xFF ∷ []), 10 ∷ 0 ∷ 1 ∷ (replicate 17 0 ++ (0 ∷ 0 ∷ 0 ∷ 0 ∷ [])))
+    ∷ (opensBy 2 climate (0x01 ∷ 0xAC ∷ 0xFF ∷ 0xFF ∷ []), 10 ∷ 0 ∷ 1 ∷ (replicate 17 0 ++ (0 ∷ 0 ∷ 0 ∷ 0 ∷ [])))
+    ∷ (opensBy 0 climate (0x01 ∷ 0xAC ∷ 0xFF ∷ 0xFF ∷ []), 20 ∷ 0 ∷ 0 ∷ 0 ∷ 0 ∷ 0 ∷ [])
+    ∷ (opensBy 4 climate (0x01 ∷ 0xAC ∷ 0xFF ∷ 0xFF ∷ []), 20 ∷ 0 ∷ 0 ∷ 0 ∷ 0 ∷ 0 ∷ [])
+    -- Rain of 5 on a blank area of eight bytes.
+    ∷ (rainBy 1 (replicate 8 0xFF) 5, 21 ∷ 0 ∷ 0 ∷ 0 ∷ 0 ∷ 0 ∷ 0 ∷ 0 ∷ [])
+    ∷ (rainBy 2 (replicate 8 0xFF) 5, 0 ∷ 0 ∷ 0 ∷ 2 ∷ 0x01 ∷ 0x05 ∷ 0 ∷ 0 ∷ [])
+    ∷ (rainBy 3 (replicate 8 0xFF) 5, 0 ∷ 0 ∷ 0 ∷ 2 ∷ 0x01 ∷ 0x05 ∷ 0 ∷ 0 ∷ [])
+    ∷ (rainBy 4 (replicate 8 0xFF) 5, 20 ∷ 0 ∷ 0 ∷ 0 ∷ 0 ∷ 0 ∷ 0 ∷ 0 ∷ [])
+    -- The role comes before an empty climate sheet, and before damage and an amount of 0.
+    ∷ (opensBy 0 [] [], 20 ∷ 0 ∷ 0 ∷ 0 ∷ 0 ∷ 0 ∷ [])
+    ∷ (rainBy 1 (0xFF ∷ 0xAC ∷ 0xFF ∷ 0xFF ∷ []) 0, 21 ∷ 0 ∷ 0 ∷ 0 ∷ 0 ∷ 0 ∷ 0 ∷ 0 ∷ [])
     ∷ []

@@ -1,7 +1,7 @@
 -- What is proved of the calls, gathered: `claims`, in proofs/Claims.antt, has a proof of each field. The lower crates' claims stand in their own `Claims`.
 use mathlib.Core.Path.{_≡_}
 use mathlib.Core.Logic.{_↔_}
-use mathlib.Core.List.{List, [], map}
+use mathlib.Core.List.{List, [], _++_, map}
 use Prim.Native.Nat.{ℕ, _≤_}
 use lib.ListN.{length, drop}
 use Rattle.verdict.specs.declared.Verdict.the-variants.{Accepted, Refused}
@@ -12,7 +12,7 @@ use Rattle.sheet.specs.declared.Written.the-variants as writer
 use Rattle.sheet.specs.Numbers.{written}
 use Rattle.fields.specs.Refusals.{climateLines, blockLines}
 use Rattle.sheet.specs.Sheets.{climateOf, blockOf, sheetsOf}
-use Rattle.sheet.specs.Writing.{sheetFields, writeLines, climateWritten, blockWritten, writeVerdict}
+use Rattle.sheet.specs.Writing.{sheetFields, writeLines, writeVerdict}
 use Rattle.sheet.specs.OneSheet.{sheetOf, oneSheet}
 use Rattle.sheet.specs.Claims as sheet
 use Rattle.journal.specs.declared.Entry.{Entry}
@@ -24,6 +24,7 @@ use Rattle.journal.specs.Specified.{Opens}
 use Rattle.journal.specs.Calls.{noStores, recordedWith, wipePlaces, openedWith, wipe, wipesIn}
 use Rattle.journal.specs.Loss.{lossNumbers}
 use Rattle.journal.specs.Book.{Step}
+use Rattle.journal.specs.Roles.{lookLines, enterLines}
 use Rattle.journal.specs.Claims as journal
 use Rattle.journal.specs.Claims.{RecordedOccurs, OpenedOccurs}
 use Rattle.planner.specs.Outlook.{daysLeft}
@@ -33,40 +34,52 @@ use Rattle.decades.specs.Table as tabled
 use Rattle.probes.specs.declared.Probe.{Probe}
 use Rattle.probes.specs.Claims as probes
 use Rattle.controller.specs.declared.Probed.{Probed}
-use Rattle.controller.specs.Calls.{sheetOpened, sheetRecorded, sheetLost, sheetPlanned, sheetProbed, probedNumbers, sheetTabled}
+use Rattle.controller.specs.Calls.{sheetOpened, sheetPlanned, probedNumbers}
+use Rattle.controller.specs.Roles.{openedBy, recordedBy, lossBy, plannedBy, probedBy, tabledBy, climateWrittenBy, blockWrittenBy, SameForRoles}
 use Rattle.controller.specs.Refusals.{onLines, openLines, lossLines, entryLines, planLines, probeLines, tableLines}
-use Rattle.controller.specs.Demands.{PlanKept, Demand3}
+use Rattle.controller.specs.Demands.{PlanKept, Demand3, Press, areaPressed, OnlyLook}
 use Rattle.controller.specs.OneSheet.{SameAsOneSheet}
-use Rattle.controller.specs.Cases.{cases, leapCases, probeCases}
+use Rattle.controller.specs.Cases.{cases, leapCases, probeCases, roleCases}
 
 pub record Claims : Type 0 where
-  -- Demand 3: for every accepted pair of sheets, area length, history with its cuts, and lent buffer.
+  -- Demand 3: for every accepted pair of sheets, area length, history with its roles and cuts, and lent buffer; opening and plan by each of roles 1 to 3.
   pub demand-3 : (climate block : List ℕ) → sheetsOf climate block .verdict ≡ Accepted → (size : ℕ) → size ≤ 8192 → (steps : List Step) (out : List ℕ)
-      → Demand3 climate block size steps out
+      → (role : ℕ) → 1 ≤ role → role ≤ 3 → Demand3 climate block size steps out role
+  -- Whatever role 1 calls, the journal stays: for every area, every sheets' bytes and every call, refused ones too, and for roles that are refused 20.
+  pub role-1-keeps : (area : List ℕ) (ps : List Press) → OnlyLook ps → areaPressed area ps ≡ area
+  -- For a role that may make it, a call answers what it answered without roles; roles 1 and 2 open without stores. So the claims below that speak of
+  -- the definitions without a role are of the calls.
+  pub same-for-roles : SameForRoles
   -- Demand 1: each call gives the first refusal that applies,
-  pub open-refuses : (climate block area : List ℕ) → verdictOf (openings.numbersOf (sheetOpened climate block area .opening)) ≡ firstOf Accepted (onLines climate block (openLines area))
-  pub entry-refuses : (climate block area : List ℕ) (e : Entry) → sheetRecorded climate block area e .verdict ≡ firstOf Accepted (onLines climate block (entryLines area e))
-  pub loss-refuses : (climate block area : List ℕ) (ky : ℕ) → verdictOf (lossNumbers (sheetLost climate block area ky)) ≡ firstOf Accepted (onLines climate block (lossLines area ky))
-  pub plan-refuses : (climate block area out : List ℕ)
-      → verdictOf (planned.numbersOf (sheetPlanned climate block area out .0)) ≡ firstOf Accepted (onLines climate block (planLines area (length out)))
-  pub probe-refuses : (climate block area : List ℕ) (shallow deep : Probe) (f : ℕ)
-      → verdictOf (probedNumbers (sheetProbed climate block area shallow deep f)) ≡ firstOf Accepted (onLines climate block (probeLines area shallow deep f))
-  pub table-refuses : (climate block out : List ℕ) → verdictOf (tabled.numbersOf (sheetTabled climate block out .0)) ≡ firstOf Accepted (onLines climate block (tableLines (length out)))
-  pub climate-write-refuses : (c out : List ℕ)
-      → writeVerdict (climateWritten c out .0) ≡ firstOf Accepted (writeLines (climateLines c) (written c) (length out))
-  pub block-write-refuses : (vs out : List ℕ)
-      → writeVerdict (blockWritten vs out .0) ≡ firstOf Accepted (writeLines (blockLines (sheetFields vs)) (written (sheetFields vs)) (length out))
+  pub open-refuses : (role : ℕ) (climate block area : List ℕ)
+      → verdictOf (openings.numbersOf (openedBy role climate block area .opening)) ≡ firstOf Accepted (onLines (lookLines role) climate block (openLines area))
+  pub entry-refuses : (role : ℕ) (climate block area : List ℕ) (e : Entry)
+      → recordedBy role climate block area e .verdict ≡ firstOf Accepted (onLines (enterLines role) climate block (entryLines area e))
+  pub loss-refuses : (role : ℕ) (climate block area : List ℕ) (ky : ℕ)
+      → verdictOf (lossNumbers (lossBy role climate block area ky)) ≡ firstOf Accepted (onLines (lookLines role) climate block (lossLines area ky))
+  pub plan-refuses : (role : ℕ) (climate block area out : List ℕ)
+      → verdictOf (planned.numbersOf (plannedBy role climate block area out .0)) ≡ firstOf Accepted (onLines (lookLines role) climate block (planLines area (length out)))
+  pub probe-refuses : (role : ℕ) (climate block area : List ℕ) (shallow deep : Probe) (f : ℕ)
+      → verdictOf (probedNumbers (probedBy role climate block area shallow deep f)) ≡ firstOf Accepted (onLines (lookLines role) climate block (probeLines area shallow deep f))
+  pub table-refuses : (role : ℕ) (climate block out : List ℕ)
+      → verdictOf (tabled.numbersOf (tabledBy role climate block out .0)) ≡ firstOf Accepted (onLines (lookLines role) climate block (tableLines (length out)))
+  pub climate-write-refuses : (role : ℕ) (c out : List ℕ)
+      → writeVerdict (climateWrittenBy role c out .0) ≡ firstOf Accepted (lookLines role ++ writeLines (climateLines c) (written c) (length out))
+  pub block-write-refuses : (role : ℕ) (vs out : List ℕ)
+      → writeVerdict (blockWrittenBy role vs out .0) ≡ firstOf Accepted (lookLines role ++ writeLines (blockLines (sheetFields vs)) (written (sheetFields vs)) (length out))
   -- and a refused call has no stores and leaves every lent buffer as it was.
-  pub open-no-stores : (climate block area : List ℕ) (number value : ℕ) → sheetOpened climate block area .opening ≡ found.Refused number value
-      → sheetOpened climate block area ≡ openedWith (found.Refused number value) []
-  pub entry-no-stores : (climate block area : List ℕ) (e : Entry) (number value : ℕ) → sheetRecorded climate block area e .verdict ≡ Refused number value
-      → sheetRecorded climate block area e ≡ recordedWith (Refused number value) noStores
-  pub plan-unaltered : (climate block area out : List ℕ) (number value : ℕ) → verdictOf (planned.numbersOf (sheetPlanned climate block area out .0)) ≡ Refused number value
-      → sheetPlanned climate block area out .1 ≡ out
-  pub table-unaltered : (climate block out : List ℕ) (number value : ℕ) → verdictOf (tabled.numbersOf (sheetTabled climate block out .0)) ≡ Refused number value
-      → sheetTabled climate block out .1 ≡ out
-  pub climate-write-unaltered : (c out : List ℕ) (number value : ℕ) → climateWritten c out .0 ≡ writer.Refused number value → climateWritten c out .1 ≡ out
-  pub block-write-unaltered : (vs out : List ℕ) (number value : ℕ) → blockWritten vs out .0 ≡ writer.Refused number value → blockWritten vs out .1 ≡ out
+  pub open-no-stores : (role : ℕ) (climate block area : List ℕ) (number value : ℕ) → openedBy role climate block area .opening ≡ found.Refused number value
+      → openedBy role climate block area ≡ openedWith (found.Refused number value) []
+  pub entry-no-stores : (role : ℕ) (climate block area : List ℕ) (e : Entry) (number value : ℕ) → recordedBy role climate block area e .verdict ≡ Refused number value
+      → recordedBy role climate block area e ≡ recordedWith (Refused number value) noStores
+  pub plan-unaltered : (role : ℕ) (climate block area out : List ℕ) (number value : ℕ)
+      → verdictOf (planned.numbersOf (plannedBy role climate block area out .0)) ≡ Refused number value → plannedBy role climate block area out .1 ≡ out
+  pub table-unaltered : (role : ℕ) (climate block out : List ℕ) (number value : ℕ)
+      → verdictOf (tabled.numbersOf (tabledBy role climate block out .0)) ≡ Refused number value → tabledBy role climate block out .1 ≡ out
+  pub climate-write-unaltered : (role : ℕ) (c out : List ℕ) (number value : ℕ) → climateWrittenBy role c out .0 ≡ writer.Refused number value
+      → climateWrittenBy role c out .1 ≡ out
+  pub block-write-unaltered : (role : ℕ) (vs out : List ℕ) (number value : ℕ) → blockWrittenBy role vs out .0 ≡ writer.Refused number value
+      → blockWrittenBy role vs out .1 ≡ out
   -- Of any area, not only after a history: open has no stores where the journal is clean; where it is torn, FF for each byte of the torn part that is
   -- not FF, highest place first, and there is such a byte.
   pub clean-no-stores : (climate block area : List ℕ) (l : Ledger) → sheetOpened climate block area .opening ≡ Clean l → sheetOpened climate block area ≡ openedWith (Clean l) []
@@ -96,8 +109,8 @@ pub record Claims : Type 0 where
   pub opening-says : (climate block area : List ℕ) → sheetsOf climate block .verdict ≡ Accepted → length area ≤ 8192
       → Opens (sheetsOf climate block .season) area (sheetOpened climate block area .opening)
   -- The calls' answers are among those on which their numberings are one to one (the journal's `Claims`; a plan's, a table's, a loss's and a probe's are, on all answers).
-  pub opened-occurs : (climate block area : List ℕ) → OpenedOccurs (sheetOpened climate block area)
-  pub recorded-occurs : (climate block area : List ℕ) (e : Entry) → RecordedOccurs (sheetRecorded climate block area e)
+  pub opened-occurs : (role : ℕ) (climate block area : List ℕ) → OpenedOccurs (openedBy role climate block area)
+  pub recorded-occurs : (role : ℕ) (climate block area : List ℕ) (e : Entry) → RecordedOccurs (recordedBy role climate block area e)
   -- Different answers of probe have different numbers.
   pub probed-one-to-one : (a b : Probed) → probedNumbers a ≡ probedNumbers b → a ≡ b
   -- The cases marked †.
@@ -106,3 +119,5 @@ pub record Claims : Type 0 where
   pub leap-cases-hold : map (λ (c : List ℕ × List ℕ). c .0) leapCases ≡ map (λ (c : List ℕ × List ℕ). c .1) leapCases
   -- The probes' (document 02, T-07).
   pub probe-cases-hold : map (λ (c : List ℕ × List ℕ). c .0) probeCases ≡ map (λ (c : List ℕ × List ℕ). c .1) probeCases
+  -- The roles' (document 02, T-09).
+  pub role-cases-hold : map (λ (c : List ℕ × List ℕ). c .0) roleCases ≡ map (λ (c : List ℕ × List ℕ). c .1) roleCases

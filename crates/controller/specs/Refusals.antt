@@ -1,5 +1,6 @@
 -- Document 01, 'Why the controller says no': each call's refusals, read downward. A line is a test, the number, the number returned with it. What a call
--- answers is held against the first line that applies by its numbering (`verdictOf` of its numbers). The writers' are `writeLines` of sheet's specs/Writing.antt.
+-- answers is held against the first line that applies by its numbering (`verdictOf` of its numbers). The role's stand first: those of journal's
+-- specs/Roles.antt. The writers' own are `writeLines` of sheet's specs/Writing.antt.
 use Prim.Native.Nat.{ℕ, _*_}
 use mathlib.Core.Bool.{Bool, true, false, _&&_, _||_}
 use mathlib.Core.List.{List, [], _∷_, _++_}
@@ -16,6 +17,7 @@ use Rattle.journal.specs.declared.Opening.{Opening}
 use Rattle.journal.specs.declared.Opening.the-variants as found
 use Rattle.journal.specs.Entries.{waiting, start, refusals}
 use Rattle.journal.specs.Opening.{opening}
+use Rattle.journal.specs.Roles.{Line}
 use Rattle.planner.specs.Plan.{Plan, depths, refused, plan}
 use Rattle.planner.specs.Outlook.{outlook, daysLeft}
 use Rattle.decades.specs.Table.{rowCount}
@@ -23,14 +25,11 @@ use Rattle.probes.specs.declared.Probe.{Probe}
 use Rattle.probes.specs.Contents.{wrongContent, noContent}
 use Rattle.controller.specs.Calls.{capacityOutside}
 
-abbrev pub Line : Type 0
-Line = Bool × ℕ × ℕ
+-- ---- 20 and 21, for every call; then 1 to 7, for every call that is given two sheets
 
--- ---- 1 to 7, for every call that is given two sheets
-
--- The climate sheet's lines, the block sheet's, then the call's.
-abbrev pub onLines : List ℕ → List ℕ → (Season → List Line) → List Line
-onLines climate block lines = pairLines climate block ++ lines (sheetsOf climate block .season)
+-- The role's lines (`lookLines` or `enterLines`), the climate sheet's, the block sheet's, then the call's.
+abbrev pub onLines : List Line → List ℕ → List ℕ → (Season → List Line) → List Line
+onLines role climate block lines = role ++ (pairLines climate block ++ lines (sheetsOf climate block .season))
 
 -- ---- 8 to 14, and 17
 

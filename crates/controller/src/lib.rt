@@ -1,6 +1,6 @@
 // The calls that firmware and the tablet make (documents 01 and 02), on the bytes of a climate sheet and a block sheet, the journal's area and lent
-// buffers. Each gives the first refusal that applies, with document 01's number. Nothing here stores to the area: the stores are handed back, and the
-// firmware does them in the order given.
+// buffers. Each is made by a role, and gives the first refusal that applies, with document 01's number. Nothing here stores to the area: the stores are
+// handed back, and the firmware does them in the order given. A public call judges the role and leaves the rest to a function without one.
 use decades::Tabled;
 use journal::Entry;
 use journal::Lost;
@@ -17,15 +17,18 @@ use verdict::Verdict;
 ghost use mathlib.Core.Path.{_≡_};
 ghost use mathlib.Core.Bool.{_||_};
 ghost use Prim.Native.Nat.{_≤_};
+ghost use Rattle.verdict.specs.declared.Verdict.the-variants.{Accepted};
+ghost use Rattle.verdict.specs.Refusals.{firstOf};
 ghost use Rattle.season.specs.Sheet.{Valid, DayOf};
 ghost use Rattle.season.specs.Day.{rootOn, totalOn, AcceptedSeason};
 ghost use Rattle.journal.specs.declared.Entry.the-variants.{Water, Close};
 ghost use Rattle.journal.specs.declared.Source.the-variants.{Rain, Irrigation};
 ghost use Rattle.journal.specs.Opening.{opening};
-ghost use Rattle.sheet.specs.Writing.{climateWritten, blockWritten};
+ghost use Rattle.journal.specs.Roles.{lookLines};
 ghost use Rattle.probes.specs.Contents.{isWrong, isNothing, contentIn};
 ghost use Rattle.probes.specs.Depletion.{measured};
-ghost use Rattle.controller.specs.Calls.{sheetOpened, sheetRecorded, sheetLost, plannedOn, sheetPlanned, capacityOutside, probedBy, probedOn, sheetProbed, sheetTabled};
+ghost use Rattle.controller.specs.Calls.{sheetOpened, sheetRecorded, sheetLost, plannedOn, sheetPlanned, capacityOutside, probedFrom, probedOn, sheetProbed, sheetTabled};
+ghost use Rattle.controller.specs.Roles.{openedBy, recordedBy, lossBy, plannedBy, probedBy, tabledBy, climateWrittenBy, blockWrittenBy};
 
 // What probe answers: the ledger's depletion and the measured one, or a refusal.
 pub enum Probed {
@@ -33,8 +36,8 @@ pub enum Probed {
     Refused(u32, usize),
 }
 
-// What the journal holds: clean or torn with its ledger, or a refusal; and the places of a torn part to set to FF, in this order. Refusals 1 to 9.
-pub fn open(climate: &[u8], block: &[u8], area: &[u8]) -> Opened
+// What the journal holds: clean or torn with its ledger, or a refusal; and the places of a torn part to set to FF, in this order.
+fn sheet_opened(climate: &[u8], block: &[u8], area: &[u8]) -> Opened
     ensures { λ r. ⌜ r ≡ sheetOpened (now (climate .entry)) (now (block .entry)) (now (area .entry)) ⌝ }
 {
     let read = sheet::read(climate, block);
@@ -46,8 +49,21 @@ pub fn open(climate: &[u8], block: &[u8], area: &[u8]) -> Opened
     }
 }
 
+// The same without the places: no stores are made.
+fn sheet_found(climate: &[u8], block: &[u8], area: &[u8]) -> Opening
+    ensures { λ r. ⌜ r ≡ sheetOpened (now (climate .entry)) (now (block .entry)) (now (area .entry)) .opening ⌝ }
+{
+    let read = sheet::read(climate, block);
+    let season = read.season;
+    let verdict = read.verdict;
+    match verdict {
+        Verdict::Refused(number, value) => Opening::Refused(number, value),
+        Verdict::Accepted => journal::find(season, area),
+    }
+}
+
 // An entry call on the sheets' bytes.
-pub fn record(climate: &[u8], block: &[u8], area: &[u8], e: Entry) -> Recorded
+fn sheet_recorded(climate: &[u8], block: &[u8], area: &[u8], e: Entry) -> Recorded
     ensures { λ r. ⌜ r ≡ sheetRecorded (now (climate .entry)) (now (block .entry)) (now (area .entry)) e ⌝ }
 {
     let read = sheet::read(climate, block);
@@ -59,34 +75,8 @@ pub fn record(climate: &[u8], block: &[u8], area: &[u8], e: Entry) -> Recorded
     }
 }
 
-// Enters rain of the open day. Refusals 1 to 14.
-pub fn rain(climate: &[u8], block: &[u8], area: &[u8], amount: u32) -> Recorded
-    ensures { λ r. ⌜ r ≡ sheetRecorded (now (climate .entry)) (now (block .entry)) (now (area .entry)) (Water Rain amount) ⌝ }
-{
-    record(climate, block, area, Entry::Water(Source::Rain, amount))
-}
-
-// Enters irrigation of the open day, a net amount. Refusals 1 to 14.
-pub fn irrigation(climate: &[u8], block: &[u8], area: &[u8], amount: u32) -> Recorded
-    ensures { λ r. ⌜ r ≡ sheetRecorded (now (climate .entry)) (now (block .entry)) (now (area .entry)) (Water Irrigation amount) ⌝ }
-{
-    record(
-        climate,
-        block,
-        area,
-        Entry::Water(Source::Irrigation, amount),
-    )
-}
-
-// Closes the open day. Refusals 1 to 11, and 14.
-pub fn close(climate: &[u8], block: &[u8], area: &[u8]) -> Recorded
-    ensures { λ r. ⌜ r ≡ sheetRecorded (now (climate .entry)) (now (block .entry)) (now (area .entry)) Close ⌝ }
-{
-    record(climate, block, area, Entry::Close)
-}
-
-// Yield lost in the season and in each stage, by a yield response factor in hundredths. Refusals 1 to 9, 17 and 10.
-pub fn loss(climate: &[u8], block: &[u8], area: &[u8], ky: u32) -> Lost
+// Yield lost, by a yield response factor.
+fn sheet_lost(climate: &[u8], block: &[u8], area: &[u8], ky: u32) -> Lost
     ensures { λ r. ⌜ r ≡ sheetLost (now (climate .entry)) (now (block .entry)) (now (area .entry)) ky ⌝ }
 {
     let read = sheet::read(climate, block);
@@ -121,8 +111,8 @@ fn plan_season(s: Season, area: &[u8], depths: &mut [u32]) -> Planned
     }
 }
 
-// A depth for each remaining day, from the start of a lent buffer; entries beyond the days stay. Refusals 1 to 11, 15 and 16.
-pub fn plan(climate: &[u8], block: &[u8], area: &[u8], depths: &mut [u32]) -> Planned
+// The plan on the sheets' bytes.
+fn sheet_planned(climate: &[u8], block: &[u8], area: &[u8], depths: &mut [u32]) -> Planned
     ensures { λ r. ⌜ (r, now (depths .exit)) ≡ sheetPlanned (now (climate .entry)) (now (block .entry)) (now (area .entry)) (now (depths .entry)) ⌝ }
 {
     let read = sheet::read(climate, block);
@@ -191,10 +181,10 @@ fn measured_on(s: Season, day: u32, capacity: u32, content: u32) -> u32
 }
 
 // By the open day and its depletion: the first of refusals 11, 18 and 19, or both depletions.
-fn probed_by(s: Season, reading: Reading, capacity: u32, day: u32, depletion: u32) -> Probed
+fn probed_from(s: Season, reading: Reading, capacity: u32, day: u32, depletion: u32) -> Probed
     requires { ⌜ Valid s ⌝ }
     requires { ⌜ 1 ≤ day ⌝ }
-    ensures { λ r. ⌜ r ≡ probedBy s reading capacity day depletion ⌝ }
+    ensures { λ r. ⌜ r ≡ probedFrom s reading capacity day depletion ⌝ }
 {
     let closed = season::season_days(s) < day;
     let wrong = is_wrong(reading, capacity);
@@ -217,15 +207,14 @@ fn probe_season(s: Season, area: &[u8], reading: Reading, capacity: u32) -> Prob
     ensures { λ r. ⌜ r ≡ probedOn s reading capacity (opening s (now (area .entry))) ⌝ }
 {
     match journal::find(s, area) {
-        Opening::Clean(l) => probed_by(s, reading, capacity, l.day, l.depletion),
+        Opening::Clean(l) => probed_from(s, reading, capacity, l.day, l.depletion),
         Opening::Torn(_, place) => Probed::Refused(10, place),
         Opening::Refused(number, place) => Probed::Refused(number, place),
     }
 }
 
-// The ledger's depletion, and the one that the block's probes mean by a field capacity in ten-thousandths. It looks only: there are no stores. Refusals
-// 1 to 11, 18 and 19.
-pub fn probe(
+// What the probes say, on the sheets' bytes.
+fn sheet_probed(
     climate: &[u8],
     block: &[u8],
     area: &[u8],
@@ -249,8 +238,8 @@ pub fn probe(
     }
 }
 
-// The decade table, six numbers a row, from the start of a lent buffer; numbers beyond the rows stay. Refusals 1 to 7, and 15.
-pub fn table(climate: &[u8], block: &[u8], rows: &mut [u32]) -> Tabled
+// The decade table, on the sheets' bytes.
+fn sheet_tabled(climate: &[u8], block: &[u8], rows: &mut [u32]) -> Tabled
     ensures { λ r. ⌜ (r, now (rows .exit)) ≡ sheetTabled (now (climate .entry)) (now (block .entry)) (now (rows .entry)) ⌝ }
 {
     let read = sheet::read(climate, block);
@@ -262,16 +251,136 @@ pub fn table(climate: &[u8], block: &[u8], rows: &mut [u32]) -> Tabled
     }
 }
 
-// The climate sheet of twenty-four numbers, from the start of a lent buffer; bytes beyond it stay. Refusals 4 and 15.
-pub fn write_climate(fields: [u32; 24], climate: &mut [u8]) -> Written
-    ensures { λ r. ⌜ (r, now (climate .exit)) ≡ climateWritten fields (now (climate .entry)) ⌝ }
+// ---- roles
+
+// Refusal 20: a role outside 1 to 3.
+fn look(role: u32) -> Verdict
+    ensures { λ r. ⌜ r ≡ firstOf Accepted (lookLines role) ⌝ }
 {
-    sheet::write_climate(fields, climate)
+    if role < 1 {
+        return Verdict::Refused(20, 0);
+    }
+    if 3 < role {
+        return Verdict::Refused(20, 0);
+    }
+    Verdict::Accepted
 }
 
-// The block sheet of the tablet's seventeen numbers, likewise. Refusals 4 to 7, and 15.
-pub fn write_block(fields: [u32; 17], block: &mut [u8]) -> Written
-    ensures { λ r. ⌜ (r, now (block .exit)) ≡ blockWritten fields (now (block .entry)) ⌝ }
+// ---- the ten calls
+
+// What the journal holds: clean or torn with its ledger, or a refusal; and, for role 3, the places of a torn part to set to FF, in this order. Refusals 20,
+// and 1 to 9.
+pub fn open(role: u32, climate: &[u8], block: &[u8], area: &[u8]) -> Opened
+    ensures { λ r. ⌜ r ≡ openedBy role (now (climate .entry)) (now (block .entry)) (now (area .entry)) ⌝ }
 {
-    sheet::write_block(fields, block)
+    match look(role) {
+        Verdict::Refused(n, v) => journal::without_stores(Opening::Refused(n, v)),
+        Verdict::Accepted => if role == 3 {
+            sheet_opened(climate, block, area)
+        } else {
+            journal::without_stores(sheet_found(climate, block, area))
+        },
+    }
+}
+
+// An entry call. Refusal 21 is role 1's.
+pub fn record(role: u32, climate: &[u8], block: &[u8], area: &[u8], e: Entry) -> Recorded
+    ensures { λ r. ⌜ r ≡ recordedBy role (now (climate .entry)) (now (block .entry)) (now (area .entry)) e ⌝ }
+{
+    match look(role).or_refused(role == 1, 21, 0) {
+        Verdict::Refused(n, v) => journal::refused(n, v),
+        Verdict::Accepted => sheet_recorded(climate, block, area, e),
+    }
+}
+
+// Enters rain of the open day. Refusals 20, 21, and 1 to 14.
+pub fn rain(role: u32, climate: &[u8], block: &[u8], area: &[u8], amount: u32) -> Recorded
+    ensures { λ r. ⌜ r ≡ recordedBy role (now (climate .entry)) (now (block .entry)) (now (area .entry)) (Water Rain amount) ⌝ }
+{
+    let entry = Entry::Water(Source::Rain, amount);
+    record(role, climate, block, area, entry)
+}
+
+// Enters irrigation of the open day, a net amount. Refusals 20, 21, and 1 to 14.
+pub fn irrigation(role: u32, climate: &[u8], block: &[u8], area: &[u8], amount: u32) -> Recorded
+    ensures { λ r. ⌜ r ≡ recordedBy role (now (climate .entry)) (now (block .entry)) (now (area .entry)) (Water Irrigation amount) ⌝ }
+{
+    let entry = Entry::Water(Source::Irrigation, amount);
+    record(role, climate, block, area, entry)
+}
+
+// Closes the open day. Refusals 20, 21, 1 to 11, and 14.
+pub fn close(role: u32, climate: &[u8], block: &[u8], area: &[u8]) -> Recorded
+    ensures { λ r. ⌜ r ≡ recordedBy role (now (climate .entry)) (now (block .entry)) (now (area .entry)) Close ⌝ }
+{
+    record(role, climate, block, area, Entry::Close)
+}
+
+// Yield lost in the season and in each stage, by a yield response factor in hundredths. Refusals 20, 1 to 9, 17 and 10.
+pub fn loss(role: u32, climate: &[u8], block: &[u8], area: &[u8], ky: u32) -> Lost
+    ensures { λ r. ⌜ r ≡ lossBy role (now (climate .entry)) (now (block .entry)) (now (area .entry)) ky ⌝ }
+{
+    match look(role) {
+        Verdict::Refused(n, v) => Lost::Refused(n, v),
+        Verdict::Accepted => sheet_lost(climate, block, area, ky),
+    }
+}
+
+// A depth for each remaining day, from the start of a lent buffer; entries beyond the days stay. Refusals 20, 1 to 11, 15 and 16.
+pub fn plan(role: u32, climate: &[u8], block: &[u8], area: &[u8], depths: &mut [u32]) -> Planned
+    ensures { λ r. ⌜ (r, now (depths .exit)) ≡ plannedBy role (now (climate .entry)) (now (block .entry)) (now (area .entry)) (now (depths .entry)) ⌝ }
+{
+    match look(role) {
+        Verdict::Refused(n, v) => Planned::Refused(n, v),
+        Verdict::Accepted => sheet_planned(climate, block, area, depths),
+    }
+}
+
+// The ledger's depletion, and the one that the block's probes mean by a field capacity in ten-thousandths. It looks only: there are no stores. Refusals
+// 20, 1 to 11, 18 and 19.
+pub fn probe(
+    role: u32,
+    climate: &[u8],
+    block: &[u8],
+    area: &[u8],
+    shallow: Probe,
+    deep: Probe,
+    capacity: u32,
+) -> Probed
+    ensures { λ r. ⌜ r ≡ probedBy role (now (climate .entry)) (now (block .entry)) (now (area .entry)) shallow deep capacity ⌝ }
+{
+    match look(role) {
+        Verdict::Refused(n, v) => Probed::Refused(n, v),
+        Verdict::Accepted => sheet_probed(climate, block, area, shallow, deep, capacity),
+    }
+}
+
+// The decade table, six numbers a row, from the start of a lent buffer; numbers beyond the rows stay. Refusals 20, 1 to 7, and 15.
+pub fn table(role: u32, climate: &[u8], block: &[u8], rows: &mut [u32]) -> Tabled
+    ensures { λ r. ⌜ (r, now (rows .exit)) ≡ tabledBy role (now (climate .entry)) (now (block .entry)) (now (rows .entry)) ⌝ }
+{
+    match look(role) {
+        Verdict::Refused(n, v) => Tabled::Refused(n, v),
+        Verdict::Accepted => sheet_tabled(climate, block, rows),
+    }
+}
+
+// The climate sheet of twenty-four numbers, from the start of a lent buffer; bytes beyond it stay. Refusals 20, 4 and 15.
+pub fn write_climate(role: u32, fields: [u32; 24], climate: &mut [u8]) -> Written
+    ensures { λ r. ⌜ (r, now (climate .exit)) ≡ climateWrittenBy role fields (now (climate .entry)) ⌝ }
+{
+    match look(role) {
+        Verdict::Refused(n, v) => Written::Refused(n, v),
+        Verdict::Accepted => sheet::write_climate(fields, climate),
+    }
+}
+
+// The block sheet of the tablet's seventeen numbers, likewise. Refusals 20, 4 to 7, and 15.
+pub fn write_block(role: u32, fields: [u32; 17], block: &mut [u8]) -> Written
+    ensures { λ r. ⌜ (r, now (block .exit)) ≡ blockWrittenBy role fields (now (block .entry)) ⌝ }
+{
+    match look(role) {
+        Verdict::Refused(n, v) => Written::Refused(n, v),
+        Verdict::Accepted => sheet::write_block(fields, block),
+    }
 }

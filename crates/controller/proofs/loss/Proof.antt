@@ -1,39 +1,28 @@
--- The answer goes by what reading the sheets answered.
-use mathlib.Core.Path.{sym, _∙_}
-use denote.Ref.{now}
-use Rattle.controller.proofs.Sheets.{sheets-refused, sheets-accepted, read-accepted-season}
-use Rattle.journal.specs.declared.Lost.the-variants.{Refused}
-use Rattle.journal.specs.Loss.{lost}
+-- The role is refused, or the call is the one without a role.
+use mathlib.Core.Path.{_∙_}
+use Rattle.controller.proofs.Roles.{declined, allowed}
 use borrow.Author.Needs.{needs}
 use Rattle.controller.proofs.loss.Statement.{statement}
 use Rattle.controller.proofs.loss.Tie as tie
 
-read-requires : tie.Need-read-requires
-read-requires c κs = search needs
+look-requires : tie.Need-look-requires
+look-requires c κs = search needs
 
-enum-known-verdict : tie.Need-enum-known-verdict
-enum-known-verdict c = search needs
+enum-known-n : tie.Need-enum-known-n
+enum-known-n c = search needs
 
 enum-told : tie.Need-enum-told
 enum-told c = search needs
 
-loss-requires : tie.Need-loss-requires
-loss-requires c κs = read-accepted-season _ _ (c .before .before .before .read .result) (c .before .before .before .read .ensures) (c .enum-told .given .1)
+sheet-lost-requires : tie.Need-sheet-lost-requires
+sheet-lost-requires c κs = search needs
 
 returns : tie.Need-returns
-returns c =
-    let at-verdict = c .before in
-    let at-read = at-verdict .before .before .before in
-    let start = at-read .before .before .before .before in
-    sym (sheets-refused Refused (λ s. lost s (now (start .args .area)) (start .args .ky)) (now (start .args .climate)) (now (start .args .block)) (at-read .read .result) (at-read .read .ensures) _ _ (at-verdict .verdict .given .1))
+returns c = declined _ _ _ _ (c .before .before .before .look .ensures) _ _ (c .before .n .given .1)
 
 returns-2 : tie.Need-returns-2
-returns-2 c =
-    let at-enum-told = c .before in
-    let at-read = at-enum-told .before .before .before in
-    let start = at-read .before .before .before .before in
-    c .loss .ensures ∙ sym (sheets-accepted Refused (λ s. lost s (now (start .args .area)) (start .args .ky)) (now (start .args .climate)) (now (start .args .block)) (at-read .read .result) (at-read .read .ensures) (at-enum-told .enum-told .given .1))
+returns-2 c = c .sheet-lost .ensures ∙ allowed _ _ _ _ (c .before .before .before .look .ensures) (c .before .enum-told .given .1)
 
 pub loss-spec : {M : Type 1} → statement M
 loss-spec =
-    tie.close (tie.spec read-requires enum-known-verdict enum-told loss-requires returns returns-2)
+    tie.close (tie.spec look-requires enum-known-n enum-told sheet-lost-requires returns returns-2)

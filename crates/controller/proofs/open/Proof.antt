@@ -1,21 +1,18 @@
--- The answer goes by what reading the sheets answered.
-use Prim.Native.Nat.{ℕ}
-use mathlib.Core.Path.{sym, _∙_}
+-- The role is refused, or the opening is the one without a role, with its stores for role 3 alone.
+use mathlib.Core.Path.{ap, _∙_}
 use mathlib.Core.List.{[]}
-use denote.Ref.{now}
-use Rattle.controller.proofs.Sheets.{sheets-refused, sheets-accepted, read-accepted-season}
-use Rattle.journal.specs.declared.Opened.{Opened}
-use Rattle.journal.specs.declared.Opening.the-variants.{Refused}
-use Rattle.journal.specs.Calls.{openedWith, opened}
+use Rattle.journal.specs.declared.Opening.{Opening}
+use Rattle.journal.specs.Calls.{openedWith}
+use Rattle.controller.proofs.Roles.{declined, allowed, with-stores, no-stores-for}
 use borrow.Author.Needs.{needs}
 use Rattle.controller.proofs.open.Statement.{statement}
 use Rattle.controller.proofs.open.Tie as tie
 
-read-requires : tie.Need-read-requires
-read-requires c κs = search needs
+look-requires : tie.Need-look-requires
+look-requires c κs = search needs
 
-enum-known-verdict : tie.Need-enum-known-verdict
-enum-known-verdict c = search needs
+enum-known-n : tie.Need-enum-known-n
+enum-known-n c = search needs
 
 without-stores-requires : tie.Need-without-stores-requires
 without-stores-requires c κs = search needs
@@ -23,35 +20,49 @@ without-stores-requires c κs = search needs
 enum-told : tie.Need-enum-told
 enum-told c = search needs
 
-open-requires : tie.Need-open-requires
-open-requires c κs = read-accepted-season _ _ (c .before .before .before .read .result) (c .before .before .before .read .ensures) (c .enum-told .given .1)
+sheet-opened-requires : tie.Need-sheet-opened-requires
+sheet-opened-requires c κs = search needs
 
--- A refused pair.
-abbrev unopened : ℕ → ℕ → Opened
-unopened number value = openedWith (Refused number value) []
+sheet-found-requires : tie.Need-sheet-found-requires
+sheet-found-requires c κs = search needs
+
+without-stores-requires-2 : tie.Need-without-stores-requires-2
+without-stores-requires-2 c κs = search needs
 
 returns : tie.Need-returns
 returns c =
-    let at-verdict = c .before .before in
-    let at-read = at-verdict .before .before .before in
-    let start = at-read .before .before .before .before in
-    c .without-stores .ensures ∙ sym (sheets-refused unopened (λ s. opened s (now (start .args .area))) (now (start .args .climate)) (now (start .args .block)) (at-read .read .result) (at-read .read .ensures) _ _ (at-verdict .verdict .given .1))
+    let at-n = c .before .before in
+    let at-look = at-n .before .before in
+    c .without-stores .ensures ∙ declined _ _ _ _ (at-look .look .ensures) _ _ (at-n .n .given .1)
 
 returns-2 : tie.Need-returns-2
 returns-2 c =
-    let at-enum-told = c .before in
-    let at-read = at-enum-told .before .before .before in
-    let start = at-read .before .before .before .before in
-    c .«open» .ensures ∙ sym (sheets-accepted unopened (λ s. opened s (now (start .args .area))) (now (start .args .climate)) (now (start .args .block)) (at-read .read .result) (at-read .read .ensures) (at-enum-told .enum-told .given .1))
+    let at-if1 = c .before in
+    let at-enum-told = at-if1 .before in
+    let at-look = at-enum-told .before .before in
+    let start = at-look .before .before .before .before in
+    c .sheet-opened .ensures ∙ with-stores (start .args .role) _ (at-if1 .if1 .taken) ∙ allowed _ _ _ _ (at-look .look .ensures) (at-enum-told .enum-told .given .1)
+
+returns-3 : tie.Need-returns-3
+returns-3 c =
+    let at-sheet-found = c .before in
+    let at-if1 = at-sheet-found .before in
+    let at-enum-told = at-if1 .before in
+    let at-look = at-enum-told .before .before in
+    let start = at-look .before .before .before .before in
+    c .without-stores2 .ensures ∙ ap (λ (o : Opening). openedWith o []) (at-sheet-found .sheet-found .ensures) ∙ no-stores-for (start .args .role) _ (at-if1 .if1 .left) ∙ allowed _ _ _ _ (at-look .look .ensures) (at-enum-told .enum-told .given .1)
 
 pub open-spec : {M : Type 1} → statement M
 open-spec =
     tie.close
     (tie.spec
-    read-requires
-    enum-known-verdict
+    look-requires
+    enum-known-n
     without-stores-requires
     enum-told
-    open-requires
+    sheet-opened-requires
+    sheet-found-requires
+    without-stores-requires-2
     returns
-    returns-2)
+    returns-2
+    returns-3)

@@ -13,8 +13,8 @@ find-requires c κs = search needs
 enum-known-l : tie.Need-enum-known-l
 enum-known-l c = search needs
 
-probed-by-requires : tie.Need-probed-by-requires
-probed-by-requires c κs =
+probed-from-requires : tie.Need-probed-from-requires
+probed-from-requires c κs =
     let at-l = c .before in
     let at-find = at-l .before .before in
     let start = at-find .before .before in
@@ -32,7 +32,7 @@ returns c =
     let at-l = c .before .before in
     let at-find = at-l .before .before in
     let start = at-find .before .before in
-    c .probed-by .ensures ∙ sym (ap (probedOn (start .args .s) (start .args .reading) (start .args .capacity)) (sym (at-find .find .ensures) ∙ at-l .l .given .1))
+    c .probed-from .ensures ∙ sym (ap (probedOn (start .args .s) (start .args .reading) (start .args .capacity)) (sym (at-find .find .ensures) ∙ at-l .l .given .1))
 
 returns-2 : tie.Need-returns-2
 unfolding probedOn
@@ -56,7 +56,7 @@ probe-season-spec =
     (tie.spec
     find-requires
     enum-known-l
-    probed-by-requires
+    probed-from-requires
     enum-known-place
     enum-known-number
     returns

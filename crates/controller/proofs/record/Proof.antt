@@ -1,18 +1,18 @@
--- The answer goes by what reading the sheets answered.
-use mathlib.Core.Path.{sym, _∙_}
-use denote.Ref.{now}
-use Rattle.controller.proofs.Sheets.{sheets-refused, sheets-accepted, read-accepted-season}
-use Rattle.verdict.specs.declared.Verdict.the-variants.{Refused}
-use Rattle.journal.specs.Calls.{noStores, recordedWith, recorded}
+-- The role is refused, 21 behind 20, or the call is the one without a role.
+use mathlib.Core.Path.{_∙_}
+use Rattle.controller.proofs.Roles.{declined, allowed, entering}
 use borrow.Author.Needs.{needs}
 use Rattle.controller.proofs.record.Statement.{statement}
 use Rattle.controller.proofs.record.Tie as tie
 
-read-requires : tie.Need-read-requires
-read-requires c κs = search needs
+look-requires : tie.Need-look-requires
+look-requires c κs = search needs
 
-enum-known-verdict : tie.Need-enum-known-verdict
-enum-known-verdict c = search needs
+or-refused-requires : tie.Need-or-refused-requires
+or-refused-requires c κs = search needs
+
+enum-known-n : tie.Need-enum-known-n
+enum-known-n c = search needs
 
 refused-requires : tie.Need-refused-requires
 refused-requires c κs = search needs
@@ -20,31 +20,34 @@ refused-requires c κs = search needs
 enum-told : tie.Need-enum-told
 enum-told c = search needs
 
-record-requires : tie.Need-record-requires
-record-requires c κs = read-accepted-season _ _ (c .before .before .before .read .result) (c .before .before .before .read .ensures) (c .enum-told .given .1)
+sheet-recorded-requires : tie.Need-sheet-recorded-requires
+sheet-recorded-requires c κs = search needs
 
 returns : tie.Need-returns
 returns c =
-    let at-verdict = c .before .before in
-    let at-read = at-verdict .before .before .before in
-    let start = at-read .before .before .before .before in
-    c .refused .ensures ∙ sym (sheets-refused (λ number value. recordedWith (Refused number value) noStores) (λ s. recorded s (now (start .args .area)) (start .args .e)) (now (start .args .climate)) (now (start .args .block)) (at-read .read .result) (at-read .read .ensures) _ _ (at-verdict .verdict .given .1))
+    let at-n = c .before .before in
+    let at-or-refused = at-n .before .before in
+    let at-look = at-or-refused .before in
+    let start = at-look .before .before .before .before in
+    c .refused .ensures ∙ declined _ _ _ _ (entering (start .args .role) (at-look .look .ensures) (at-or-refused .or-refused .ensures)) _ _ (at-n .n .given .1)
 
 returns-2 : tie.Need-returns-2
 returns-2 c =
     let at-enum-told = c .before in
-    let at-read = at-enum-told .before .before .before in
-    let start = at-read .before .before .before .before in
-    c .«record» .ensures ∙ sym (sheets-accepted (λ number value. recordedWith (Refused number value) noStores) (λ s. recorded s (now (start .args .area)) (start .args .e)) (now (start .args .climate)) (now (start .args .block)) (at-read .read .result) (at-read .read .ensures) (at-enum-told .enum-told .given .1))
+    let at-or-refused = at-enum-told .before .before in
+    let at-look = at-or-refused .before in
+    let start = at-look .before .before .before .before in
+    c .sheet-recorded .ensures ∙ allowed _ _ _ _ (entering (start .args .role) (at-look .look .ensures) (at-or-refused .or-refused .ensures)) (at-enum-told .enum-told .given .1)
 
 pub record-spec : {M : Type 1} → statement M
 record-spec =
     tie.close
     (tie.spec
-    read-requires
-    enum-known-verdict
+    look-requires
+    or-refused-requires
+    enum-known-n
     refused-requires
     enum-told
-    record-requires
+    sheet-recorded-requires
     returns
     returns-2)

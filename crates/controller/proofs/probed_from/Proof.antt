@@ -11,11 +11,11 @@ use Rattle.season.specs.Day.{rootOn, totalOn}
 use Rattle.probes.specs.Contents.{contentIn}
 use Rattle.probes.specs.Depletion.{measured}
 use Rattle.controller.specs.declared.Probed.the-variants.{Depletions}
-use Rattle.controller.specs.Calls.{probeRefusals, probedUnless, probedBy}
+use Rattle.controller.specs.Calls.{probeRefusals, probedUnless, probedFrom}
 use Rattle.controller.proofs.Probing.{probe-passes}
 use borrow.Author.Needs.{needs}
-use Rattle.controller.proofs.probed_by.Statement.{statement}
-use Rattle.controller.proofs.probed_by.Tie as tie
+use Rattle.controller.proofs.probed_from.Statement.{statement}
+use Rattle.controller.proofs.probed_from.Tie as tie
 
 abbrev start-of : tie.After-or-refused3 → tie.Start
 start-of c = c .before .before .before .before .before .before
@@ -39,7 +39,7 @@ chain c =
 answer-by : (c : tie.After-or-refused3) (v : Verdict) → c .or-refused3 .result ≡ v
     → let a = start-of c .args in
     probedUnless v (Depletions (a .depletion) (measured (a .capacity) (contentIn (a .reading)) (rootOn (a .s) (a .day)) (totalOn (a .s) (a .day))))
-    ≡ probedBy (a .s) (a .reading) (a .capacity) (a .day) (a .depletion)
+    ≡ probedFrom (a .s) (a .reading) (a .capacity) (a .day) (a .depletion)
 answer-by c v e =
     let a = start-of c .args in
     ap (λ (w : Verdict). probedUnless w (Depletions (a .depletion) (measured (a .capacity) (contentIn (a .reading)) (rootOn (a .s) (a .day)) (totalOn (a .s) (a .day)))))
@@ -94,8 +94,8 @@ returns-2 c =
     let at-number = c .before in
     answer-by (at-number .before .before) _ (at-number .number .given .1)
 
-pub probed-by-spec : {M : Type 1} → statement M
-probed-by-spec =
+pub probed-from-spec : {M : Type 1} → statement M
+probed-from-spec =
     tie.close
     (tie.spec
     season-days-requires
