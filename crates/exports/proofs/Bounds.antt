@@ -30,6 +30,8 @@ use Rattle.journal.specs.declared.Opening.the-variants as found
 use Rattle.journal.specs.Entries.{waiting, refusals, refusal}
 use Rattle.journal.specs.Opening.{opening}
 use Rattle.journal.specs.Calls.{storesOf, noStores, recordedWith, recordedOn, recorded, wipePlaces, openedWith, openedOn, opened}
+use Rattle.journal.specs.Roles.{lookLines, mayMend, byRole}
+use Rattle.journal.specs.History.{withoutStores}
 use Rattle.journal.specs.declared.Lost.the-variants as losing
 use Rattle.journal.specs.Loss.{lossesOf, lossRefusals, lostUnless, lostBy, lostOn, lost}
 use Rattle.journal.specs.Claims.{StoresOccur}
@@ -48,8 +50,10 @@ use Rattle.probes.specs.declared.Probe.{Probe}
 use Rattle.probes.specs.declared.Reading.{Reading}
 use Rattle.probes.specs.Contents.{readingOf}
 use Rattle.controller.specs.declared.Probed.the-variants as probed
-use Rattle.controller.specs.Calls.{plannedOn, probeRefusals, probedUnless, probedBy, probedOn, sheetOpened, sheetRecorded, sheetLost, sheetPlanned, sheetProbed, sheetTabled}
+use Rattle.controller.specs.Calls.{plannedOn, probeRefusals, probedUnless, probedFrom, probedOn, sheetOpened, sheetRecorded, sheetLost, sheetPlanned, sheetProbed, sheetTabled}
+use Rattle.controller.specs.Roles.{openedBy, recordedBy, lossBy, plannedBy, probedBy, tabledBy, climateWrittenBy, blockWrittenBy}
 use Rattle.controller.proofs.Sheets.{on-sheets}
+use Rattle.controller.proofs.Roles.{look-by, enter-by, either-way}
 use Rattle.controller.proofs.Refusing.{opening-by}
 use Rattle.controller.proofs.Claims.{claims}
 use Rattle.exports.specs.Small.{SmallVerdict, SmallOpening, SmallOpened, SmallRecorded, SmallLost, SmallPlanned, SmallProbed, SmallTabled, SmallWritten}
@@ -113,10 +117,19 @@ opened-wipes climate block area =
     })
     (λ h l i. record { opening = omega arith; places = zeros-up-to 8192 }))
 
-pub opened-small : (climate block area : List ℕ) → SmallOpened (sheetOpened climate block area)
-opened-small climate block area =
+-- A role's: with them, without, or refused.
+role-wipes : (role : ℕ) (climate block area : List ℕ) → Wipes (openedBy role climate block area)
+role-wipes role climate block area =
+    let r = sheetOpened climate block area in
     let w = opened-wipes climate block area in
-    record { opening = w .opening; count = omega (arith, claims .opened-occurs climate block area .placed .few); places = w .places }
+    look-by Wipes (λ number value. openedWith (found.Refused number value) []) (cond (mayMend role) r (withoutStores r)) role
+    (record { opening = omega arith; places = zeros-up-to 8192 })
+    (either-way Wipes r (mayMend role) w (record { opening = w .opening; places = zeros-up-to 8192 }))
+
+pub opened-small : (role : ℕ) (climate block area : List ℕ) → SmallOpened (openedBy role climate block area)
+opened-small role climate block area =
+    let w = role-wipes role climate block area in
+    record { opening = w .opening; count = omega (arith, claims .opened-occurs role climate block area .placed .few); places = w .places }
 
 -- ---- rain, irrigation and close
 
@@ -155,10 +168,13 @@ few-stores : (v : Verdict) (w : Stores) → StoresOccur v w → w .count ≤ 819
 few-stores Accepted w h = omega (arith, h .few)
 few-stores (Refused number value) w h = omega (arith, ap (λ (x : Stores). x .count) (h .1))
 
-pub recorded-small : (climate block area : List ℕ) (e : Entry) → SmallRecorded (sheetRecorded climate block area e)
-recorded-small climate block area e =
-    let b = recorded-begins climate block area e in
-    record { verdict = b .verdict; start = b .start; count = few-stores (sheetRecorded climate block area e .verdict) (sheetRecorded climate block area e .stores) (claims .recorded-occurs climate block area e) }
+pub recorded-small : (role : ℕ) (climate block area : List ℕ) (e : Entry) → SmallRecorded (recordedBy role climate block area e)
+recorded-small role climate block area e =
+    let r = recordedBy role climate block area e in
+    let b = enter-by Begins (λ number value. recordedWith (Refused number value) noStores) (sheetRecorded climate block area e) role
+    (λ number few. recorded-with-begins (Refused number 0) noStores (omega arith) (omega arith))
+    (recorded-begins climate block area e) in
+    record { verdict = b .verdict; start = b .start; count = few-stores (r .verdict) (r .stores) (claims .recorded-occurs role climate block area e) }
 
 -- ---- loss
 
@@ -172,18 +188,19 @@ lost-by-small ky l t place h =
     unless Accepted a = tt
     unless (Refused number value) a = a
 
-pub lost-small : (climate block area : List ℕ) (ky : ℕ) → SmallLost (sheetLost climate block area ky)
+pub lost-small : (role : ℕ) (climate block area : List ℕ) (ky : ℕ) → SmallLost (lossBy role climate block area ky)
 unfolding lost lostOn
-lost-small climate block area ky =
-    on-sheets losing.Refused (λ s. lost s area ky) climate block SmallLost
+lost-small role climate block area ky =
+    look-by SmallLost losing.Refused (sheetLost climate block area ky) role (omega arith)
+    (on-sheets losing.Refused (λ s. lost s area ky) climate block SmallLost
     (λ number value v. refused-small climate block number value v)
-    (λ s v q o. opening-by s area (λ p. SmallLost (lostOn ky p)) (λ h. omega arith) (λ h l i. lost-by-small ky l false 0 (omega arith)) (λ h l i. lost-by-small ky l true (l .place) (omega arith)) (λ h l i. omega arith))
+    (λ s v q o. opening-by s area (λ p. SmallLost (lostOn ky p)) (λ h. omega arith) (λ h l i. lost-by-small ky l false 0 (omega arith)) (λ h l i. lost-by-small ky l true (l .place) (omega arith)) (λ h l i. omega arith)))
 
 -- ---- probe
 
 -- Refusals 11, 18 and 19 carry no place.
-probed-by-small : (s : Season) (r : Reading) (f day depletion : ℕ) → SmallProbed (probedBy s r f day depletion)
-probed-by-small s r f day depletion =
+probed-from-small : (s : Season) (r : Reading) (f day depletion : ℕ) → SmallProbed (probedFrom s r f day depletion)
+probed-from-small s r f day depletion =
     unless (firstOf Accepted (probeRefusals (ltb (seasonDays s) day) r f)) _
     (first-refusal (λ number value. value ≤ 8192) Accepted (probeRefusals (ltb (seasonDays s) day) r f) tt (omega arith, (omega arith, (omega arith, tt))))
   where
@@ -191,13 +208,14 @@ probed-by-small s r f day depletion =
     unless Accepted p a = tt
     unless (Refused number value) p a = a
 
-pub probed-small : (climate block area : List ℕ) (shallow deep : Probe) (f : ℕ) → SmallProbed (sheetProbed climate block area shallow deep f)
+pub probed-small : (role : ℕ) (climate block area : List ℕ) (shallow deep : Probe) (f : ℕ) → SmallProbed (probedBy role climate block area shallow deep f)
 unfolding probedOn
-probed-small climate block area shallow deep f =
+probed-small role climate block area shallow deep f =
     let r = readingOf shallow deep in
-    on-sheets probed.Refused (λ s. probedOn s r f (opening s area)) climate block SmallProbed
+    look-by SmallProbed probed.Refused (sheetProbed climate block area shallow deep f) role (omega arith)
+    (on-sheets probed.Refused (λ s. probedOn s r f (opening s area)) climate block SmallProbed
     (λ number value v. refused-small climate block number value v)
-    (λ s v q o. opening-by s area (λ p. SmallProbed (probedOn s r f p)) (λ h. omega arith) (λ h l i. probed-by-small s r f (l .day) (l .depletion)) (λ h l i. omega arith) (λ h l i. omega arith))
+    (λ s v q o. opening-by s area (λ p. SmallProbed (probedOn s r f p)) (λ h. omega arith) (λ h l i. probed-from-small s r f (l .day) (l .depletion)) (λ h l i. omega arith) (λ h l i. omega arith)))
 
 -- ---- plan and table
 
@@ -236,18 +254,20 @@ module _ (s : Season) (sown : AcceptedSeason s) (out : List ℕ) where
       go true = omega arith
       go false = omega (arith, rows-at-most s (sown .valid))
 
-pub planned-small : (climate block area out : List ℕ) → SmallPlanned (sheetPlanned climate block area out .0)
+pub planned-small : (role : ℕ) (climate block area out : List ℕ) → SmallPlanned (plannedBy role climate block area out .0)
 unfolding plannedOn
-planned-small climate block area out =
-    on-sheets (λ number value. (planned.Refused number value, out)) (λ s. plannedOn s out (opening s area)) climate block (λ (a : Planned × List ℕ). SmallPlanned (a .0))
+planned-small role climate block area out =
+    look-by (λ (a : Planned × List ℕ). SmallPlanned (a .0)) (λ number value. (planned.Refused number value, out)) (sheetPlanned climate block area out) role (omega arith)
+    (on-sheets (λ number value. (planned.Refused number value, out)) (λ s. plannedOn s out (opening s area)) climate block (λ (a : Planned × List ℕ). SmallPlanned (a .0))
     (λ number value v. refused-small climate block number value v)
-    (λ s v q o. opening-by s area (λ p. SmallPlanned (plannedOn s out p .0)) (λ h. omega arith) (λ h l i. ledger-small s o out l) (λ h l i. omega arith) (λ h l i. omega arith))
+    (λ s v q o. opening-by s area (λ p. SmallPlanned (plannedOn s out p .0)) (λ h. omega arith) (λ h l i. ledger-small s o out l) (λ h l i. omega arith) (λ h l i. omega arith)))
 
-pub tabled-small : (climate block out : List ℕ) → SmallTabled (sheetTabled climate block out .0)
-tabled-small climate block out =
-    on-sheets (λ number value. (table.Refused number value, out)) (λ s. tabled s out) climate block (λ (a : Tabled × List ℕ). SmallTabled (a .0))
+pub tabled-small : (role : ℕ) (climate block out : List ℕ) → SmallTabled (tabledBy role climate block out .0)
+tabled-small role climate block out =
+    look-by (λ (a : Tabled × List ℕ). SmallTabled (a .0)) (λ number value. (table.Refused number value, out)) (sheetTabled climate block out) role (omega arith)
+    (on-sheets (λ number value. (table.Refused number value, out)) (λ s. tabled s out) climate block (λ (a : Tabled × List ℕ). SmallTabled (a .0))
     (λ number value v. refused-small climate block number value v)
-    (λ s v q o. rows-few s o out)
+    (λ s v q o. rows-few s o out))
 
 -- ---- the writers
 
@@ -255,14 +275,20 @@ written-small : (w : Written) → ((count : ℕ) → w ≡ writer.Made count →
 written-small (writer.Made count) f g = f count refl
 written-small (writer.Refused number value) f g = g number value refl
 
-pub climate-small : (fields out : List ℕ) → length fields ≡ 24 → SmallWritten (climateWritten fields out .0)
-climate-small fields out n =
-    written-small (climateWritten fields out .0)
-    (λ count e. omega (arith, sheets.claims .climate-write-length fields out count n e .1))
-    (λ number value e. omega (arith, climate-write-refused-is (written fields) (length out) number value fields (sym (sheets.claims .climate-write-refuses fields out) ∙ ap writeVerdict e)))
+-- A writer by a role.
+role-small : (role : ℕ) (out : List ℕ) (made : Written × List ℕ) → SmallWritten (made .0) → SmallWritten (byRole (lookLines role) (λ number value. (writer.Refused number value, out)) made .0)
+role-small role out made = look-by (λ (a : Written × List ℕ). SmallWritten (a .0)) (λ number value. (writer.Refused number value, out)) made role (omega arith)
 
-pub block-small : (fields out : List ℕ) → length fields ≡ 17 → SmallWritten (blockWritten fields out .0)
-block-small fields out n =
-    written-small (blockWritten fields out .0)
+pub climate-small : (role : ℕ) (fields out : List ℕ) → length fields ≡ 24 → SmallWritten (climateWrittenBy role fields out .0)
+climate-small role fields out n =
+    role-small role out (climateWritten fields out)
+    (written-small (climateWritten fields out .0)
+    (λ count e. omega (arith, sheets.claims .climate-write-length fields out count n e .1))
+    (λ number value e. omega (arith, climate-write-refused-is (written fields) (length out) number value fields (sym (sheets.claims .climate-write-refuses fields out) ∙ ap writeVerdict e))))
+
+pub block-small : (role : ℕ) (fields out : List ℕ) → length fields ≡ 17 → SmallWritten (blockWrittenBy role fields out .0)
+block-small role fields out n =
+    role-small role out (blockWritten fields out)
+    (written-small (blockWritten fields out .0)
     (λ count e. omega (arith, sheets.claims .block-write-length fields out count n e .1))
-    (λ number value e. omega (arith, block-write-refused-is (written (sheetFields fields)) (length out) number value (sheetFields fields) (sym (sheets.claims .block-write-refuses fields out) ∙ ap writeVerdict e)))
+    (λ number value e. omega (arith, block-write-refused-is (written (sheetFields fields)) (length out) number value (sheetFields fields) (sym (sheets.claims .block-write-refuses fields out) ∙ ap writeVerdict e))))

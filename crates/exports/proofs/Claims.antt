@@ -31,12 +31,13 @@ use Rattle.decades.specs.Table as decades
 use Rattle.sheet.specs.declared.Written.{Written}
 use Rattle.sheet.specs.declared.Written.the-variants as made
 use Rattle.sheet.specs.Writing as writer
-use Rattle.sheet.specs.Writing.{climateWritten, blockWritten}
 use Rattle.season.proofs.Stores.{at-start}
-use Rattle.controller.specs.Calls.{sheetOpened, sheetRecorded, sheetLost, sheetPlanned, sheetProbed, probedNumbers, sheetTabled}
+use Rattle.controller.specs.Calls.{probedNumbers}
+use Rattle.controller.specs.Roles.{openedBy, recordedBy, lossBy, plannedBy, probedBy, tabledBy, climateWrittenBy, blockWrittenBy}
 use Rattle.controller.proofs.Claims as controller
 use Rattle.verdict.specs.Refusals.{numbersThen}
-use Rattle.exports.specs.Written.{outLength, writtenOver, withLedger, openedOut}
+use Rattle.answers.specs.Over.{outLength, writtenOver}
+use Rattle.exports.specs.Written.{withLedger, openedOut}
 use Rattle.exports.specs.Kinds.{probeOf}
 use Rattle.exports.specs.Claims.{Claims}
 use Rattle.exports.proofs.Bounds.{opened-small, recorded-small, lost-small, planned-small, probed-small, tabled-small, climate-small, block-small}
@@ -123,14 +124,14 @@ pub claims : Claims
 unfolding probeOf
 claims = record {
   over-first = over-first;
-  opened-fits = λ climate block area. opening-length (sheetOpened climate block area .opening) (sheetOpened climate block area) (controller.claims .opened-occurs climate block area .placed);
-  recorded-fits = λ climate block area e. stores-length (sheetRecorded climate block area e .verdict) (sheetRecorded climate block area e .stores) (controller.claims .recorded-occurs climate block area e);
-  lost-fits = λ climate block area ky. lost-length (sheetLost climate block area ky);
-  planned-fits = λ climate block area depths. planned-length (sheetPlanned climate block area depths .0);
-  probed-fits = λ climate block area shallow deep f. probed-length (sheetProbed climate block area shallow deep f);
-  tabled-fits = λ climate block rows. tabled-length (sheetTabled climate block rows .0);
-  climate-fits = λ fields climate. written-length (climateWritten fields climate .0);
-  block-fits = λ fields block. written-length (blockWritten fields block .0);
+  opened-fits = λ role climate block area. let r = openedBy role climate block area in opening-length (r .opening) r (controller.claims .opened-occurs role climate block area .placed);
+  recorded-fits = λ role climate block area e. let r = recordedBy role climate block area e in stores-length (r .verdict) (r .stores) (controller.claims .recorded-occurs role climate block area e);
+  lost-fits = λ role climate block area ky. lost-length (lossBy role climate block area ky);
+  planned-fits = λ role climate block area depths. planned-length (plannedBy role climate block area depths .0);
+  probed-fits = λ role climate block area shallow deep f. probed-length (probedBy role climate block area shallow deep f);
+  tabled-fits = λ role climate block rows. tabled-length (tabledBy role climate block rows .0);
+  climate-fits = λ role fields climate. written-length (climateWrittenBy role fields climate .0);
+  block-fits = λ role fields block. written-length (blockWrittenBy role fields block .0);
   opened-small = opened-small;
   recorded-small = recorded-small;
   lost-small = lost-small;

@@ -1,6 +1,6 @@
 -- An answer by its case: what holds of it, and that its numbers are those that were written.
 use Prim.Native.Nat.{ℕ}
-use mathlib.Core.Path.{_≡_, refl, sym, ap, subst, _∙_}
+use mathlib.Core.Path.{_≡_, refl, sym, ap, ap₂, subst, _∙_}
 use mathlib.Core.List.{List, [], _∷_, _++_}
 use native.Mathlib.Omega.{arith}
 use lib.ListN.{length, getD}
@@ -8,9 +8,11 @@ use Rattle.verdict.specs.declared.Verdict.{Verdict}
 use Rattle.journal.specs.declared.Recorded.{Recorded}
 use Rattle.journal.specs.declared.Opening.{Opening}
 use Rattle.journal.specs.declared.Opened.{Opened}
-use Rattle.controller.specs.Calls.{sheetOpened}
+use Rattle.probes.specs.declared.Probe.{Probe}
+use Rattle.controller.specs.declared.Probed.{Probed}
+use Rattle.controller.specs.Roles.{openedBy, probedBy}
 use Rattle.controller.proofs.Claims.{claims}
-use Rattle.exports.specs.Written.{writtenOver}
+use Rattle.answers.specs.Over.{writtenOver}
 
 -- An answer a, which is the call's and of the case b.
 module _ {A : Type 0} {a b call : A} (case : a ≡ b) (is : a ≡ call) where
@@ -42,13 +44,23 @@ three-are (a ∷ b ∷ []) h = absurd (omega arith)
 three-are (a ∷ b ∷ c ∷ []) h = refl
 three-are (a ∷ b ∷ c ∷ d ∷ xs) h = absurd (omega arith)
 
--- Behind other numbers, the count and the places of an opening.
-pub places-over : {r : Opened} (climate block area : List ℕ) → r ≡ sheetOpened climate block area → (ns out : List ℕ)
-    → writtenOver (ns ++ (r .count ∷ getD (r .places) 0 0 ∷ getD (r .places) 1 0 ∷ getD (r .places) 2 0 ∷ [])) out ≡ writtenOver (ns ++ (r .count ∷ r .places)) out
-places-over {r} climate block area e ns out =
-    let size : length (r .places) ≡ 3 = ap (λ (q : Opened). length (q .places)) e ∙ claims .opened-occurs climate block area .placed .size in
-    ap (λ (ps : List ℕ). writtenOver (ns ++ (r .count ∷ ps)) out) (three-are (r .places) size)
-
 pub four-are : (xs : List ℕ) → length xs ≡ 4 → getD xs 0 0 ∷ getD xs 1 0 ∷ getD xs 2 0 ∷ getD xs 3 0 ∷ [] ≡ xs
 four-are [] h = absurd (omega arith)
 four-are (a ∷ xs) h = ap (λ (ys : List ℕ). a ∷ ys) (three-are xs (omega arith))
+
+-- What was written one by one is, behind other numbers, the count and the places of an opening; and the bytes of an entry.
+pub places-over : {r : Opened} {last : List ℕ} (role : ℕ) (climate block area : List ℕ) → r ≡ openedBy role climate block area → (ns out : List ℕ)
+    → last ≡ writtenOver (ns ++ (r .count ∷ getD (r .places) 0 0 ∷ getD (r .places) 1 0 ∷ getD (r .places) 2 0 ∷ [])) out
+    → last ≡ writtenOver (ns ++ (r .count ∷ r .places)) out
+places-over {r} role climate block area e ns out w =
+    let size : length (r .places) ≡ 3 = ap (λ (q : Opened). length (q .places)) e ∙ claims .opened-occurs role climate block area .placed .size in
+    w ∙ ap (λ (ps : List ℕ). writtenOver (ns ++ (r .count ∷ ps)) out) (three-are (r .places) size)
+
+pub bytes-over : {last : List ℕ} (ns bytes out : List ℕ) → length bytes ≡ 4
+    → last ≡ writtenOver (ns ++ (getD bytes 0 0 ∷ getD bytes 1 0 ∷ getD bytes 2 0 ∷ getD bytes 3 0 ∷ [])) out → last ≡ writtenOver (ns ++ bytes) out
+bytes-over ns bytes out size w = w ∙ ap (λ (bs : List ℕ). writtenOver (ns ++ bs) out) (four-are bytes size)
+
+-- A probe call's answer, of the probes that the kinds say.
+pub probes-are : {r : Probed} {p q p′ q′ : Probe} (role : ℕ) (climate block area : List ℕ) (f : ℕ) → p ≡ p′ → q ≡ q′
+    → r ≡ probedBy role climate block area p q f → r ≡ probedBy role climate block area p′ q′ f
+probes-are role climate block area f i j w = w ∙ ap₂ (λ (x y : Probe). probedBy role climate block area x y f) i j

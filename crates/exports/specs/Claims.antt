@@ -12,11 +12,12 @@ use Rattle.journal.specs.Claims.{RecordedOccurs, OpenedOccurs}
 use Rattle.planner.specs.Answer as planner
 use Rattle.decades.specs.Table as decades
 use Rattle.sheet.specs.Writing as writer
-use Rattle.sheet.specs.Writing.{climateWritten, blockWritten}
 use Rattle.probes.specs.declared.Probe.{Probe}
 use Rattle.probes.specs.declared.Probe.the-variants.{Water, Low, Silent}
-use Rattle.controller.specs.Calls.{sheetOpened, sheetRecorded, sheetLost, sheetPlanned, sheetProbed, probedNumbers, sheetTabled}
-use Rattle.exports.specs.Written.{outLength, writtenOver, openedOut, recordedOut}
+use Rattle.controller.specs.Calls.{probedNumbers}
+use Rattle.controller.specs.Roles.{openedBy, recordedBy, lossBy, plannedBy, probedBy, tabledBy, climateWrittenBy, blockWrittenBy}
+use Rattle.answers.specs.Over.{outLength, writtenOver}
+use Rattle.exports.specs.Written.{openedOut, recordedOut}
 use Rattle.exports.specs.Kinds.{probeOf}
 use Rattle.exports.specs.Small.{SmallOpened, SmallRecorded, SmallLost, SmallPlanned, SmallProbed, SmallTabled, SmallWritten}
 
@@ -24,23 +25,23 @@ pub record Claims : Type 0 where
   -- Numbers that an array has room for stand first in it, and what stood beyond them stays.
   pub over-first : (ns out : List ℕ) → length ns ≤ length out → writtenOver ns out ≡ ns ++ drop (length ns) out
   -- The array has room for every answer.
-  pub opened-fits : (climate block area : List ℕ) → length (openedOut (sheetOpened climate block area)) ≤ outLength
-  pub recorded-fits : (climate block area : List ℕ) (e : Entry) → length (recordedOut (sheetRecorded climate block area e)) ≤ outLength
-  pub lost-fits : (climate block area : List ℕ) (ky : ℕ) → length (lossNumbers (sheetLost climate block area ky)) ≤ outLength
-  pub planned-fits : (climate block area depths : List ℕ) → length (planner.numbersOf (sheetPlanned climate block area depths .0)) ≤ outLength
-  pub probed-fits : (climate block area : List ℕ) (shallow deep : Probe) (f : ℕ) → length (probedNumbers (sheetProbed climate block area shallow deep f)) ≤ outLength
-  pub tabled-fits : (climate block rows : List ℕ) → length (decades.numbersOf (sheetTabled climate block rows .0)) ≤ outLength
-  pub climate-fits : (fields climate : List ℕ) → length (writer.numbersOf (climateWritten fields climate .0)) ≤ outLength
-  pub block-fits : (fields block : List ℕ) → length (writer.numbersOf (blockWritten fields block .0)) ≤ outLength
+  pub opened-fits : (role : ℕ) (climate block area : List ℕ) → length (openedOut (openedBy role climate block area)) ≤ outLength
+  pub recorded-fits : (role : ℕ) (climate block area : List ℕ) (e : Entry) → length (recordedOut (recordedBy role climate block area e)) ≤ outLength
+  pub lost-fits : (role : ℕ) (climate block area : List ℕ) (ky : ℕ) → length (lossNumbers (lossBy role climate block area ky)) ≤ outLength
+  pub planned-fits : (role : ℕ) (climate block area depths : List ℕ) → length (planner.numbersOf (plannedBy role climate block area depths .0)) ≤ outLength
+  pub probed-fits : (role : ℕ) (climate block area : List ℕ) (shallow deep : Probe) (f : ℕ) → length (probedNumbers (probedBy role climate block area shallow deep f)) ≤ outLength
+  pub tabled-fits : (role : ℕ) (climate block rows : List ℕ) → length (decades.numbersOf (tabledBy role climate block rows .0)) ≤ outLength
+  pub climate-fits : (role : ℕ) (fields climate : List ℕ) → length (writer.numbersOf (climateWrittenBy role fields climate .0)) ≤ outLength
+  pub block-fits : (role : ℕ) (fields block : List ℕ) → length (writer.numbersOf (blockWrittenBy role fields block .0)) ≤ outLength
   -- No place, count or number returned with a refusal passes 8,192.
-  pub opened-small : (climate block area : List ℕ) → SmallOpened (sheetOpened climate block area)
-  pub recorded-small : (climate block area : List ℕ) (e : Entry) → SmallRecorded (sheetRecorded climate block area e)
-  pub lost-small : (climate block area : List ℕ) (ky : ℕ) → SmallLost (sheetLost climate block area ky)
-  pub planned-small : (climate block area depths : List ℕ) → SmallPlanned (sheetPlanned climate block area depths .0)
-  pub probed-small : (climate block area : List ℕ) (shallow deep : Probe) (f : ℕ) → SmallProbed (sheetProbed climate block area shallow deep f)
-  pub tabled-small : (climate block rows : List ℕ) → SmallTabled (sheetTabled climate block rows .0)
-  pub climate-small : (fields climate : List ℕ) → length fields ≡ 24 → SmallWritten (climateWritten fields climate .0)
-  pub block-small : (fields block : List ℕ) → length fields ≡ 17 → SmallWritten (blockWritten fields block .0)
+  pub opened-small : (role : ℕ) (climate block area : List ℕ) → SmallOpened (openedBy role climate block area)
+  pub recorded-small : (role : ℕ) (climate block area : List ℕ) (e : Entry) → SmallRecorded (recordedBy role climate block area e)
+  pub lost-small : (role : ℕ) (climate block area : List ℕ) (ky : ℕ) → SmallLost (lossBy role climate block area ky)
+  pub planned-small : (role : ℕ) (climate block area depths : List ℕ) → SmallPlanned (plannedBy role climate block area depths .0)
+  pub probed-small : (role : ℕ) (climate block area : List ℕ) (shallow deep : Probe) (f : ℕ) → SmallProbed (probedBy role climate block area shallow deep f)
+  pub tabled-small : (role : ℕ) (climate block rows : List ℕ) → SmallTabled (tabledBy role climate block rows .0)
+  pub climate-small : (role : ℕ) (fields climate : List ℕ) → length fields ≡ 24 → SmallWritten (climateWrittenBy role fields climate .0)
+  pub block-small : (role : ℕ) (fields block : List ℕ) → length fields ≡ 17 → SmallWritten (blockWrittenBy role fields block .0)
   -- A probe's kind: 1 is a water content, 2 a low supply voltage, every other number silent.
   pub kind-water : (x : Float) → probeOf 1 x ≡ Water x
   pub kind-low : (x : Float) → probeOf 2 x ≡ Low x

@@ -2,7 +2,7 @@
 -- returned with it, then the answer. A loss, a plan, a probe, a table and a sheet written have the numbering that stands beside them.
 use Prim.Native.Nat.{ℕ}
 use mathlib.Core.List.{List, [], _∷_, _++_}
-use lib.Seq.{sets}
+use Rattle.answers.specs.Over.{writtenOver}
 use Rattle.verdict.specs.Refusals.{numbersThen}
 use Rattle.journal.specs.declared.Recorded.{Recorded}
 use Rattle.journal.specs.declared.Opening.{Opening}
@@ -15,14 +15,6 @@ use Rattle.decades.specs.declared.Tabled.{Tabled}
 use Rattle.decades.specs.Table as decades
 use Rattle.sheet.specs.declared.Written.{Written}
 use Rattle.sheet.specs.Writing as writer
-
--- How many numbers the caller's array has.
-abbrev pub outLength : ℕ
-outLength = 24
-
--- Numbers over the first numbers of an array; those beyond keep what they held.
-abbrev pub writtenOver : List ℕ → List ℕ → List ℕ
-writtenOver ns out = sets out 0 ns
 
 -- Numbers that stand beside a ledger alone: a refusal has none.
 abbrev pub withLedger : Opening → List ℕ → List ℕ

@@ -19,7 +19,9 @@ use Rattle.decades.proofs.Answers.{rows-refused, tabled-whole}
 use Rattle.sheet.specs.Sheets.{sheetsOf, climateEnd}
 use Rattle.sheet.proofs.Accepted.{accepted-season}
 use Rattle.controller.specs.Calls.{onSheets, sheetTabled}
+use Rattle.controller.specs.Roles.{tabledBy}
 use Rattle.controller.proofs.Sheets.{sheets-refused, sheets-accepted}
+use Rattle.controller.proofs.Roles.{same-for-roles}
 use Rattle.printed.specs.Text.{cell, cells, sheetsPrinted, printed, printedTo}
 
 module _ (climate block out : List ℕ) (long : length out ≡ 174) where
@@ -32,19 +34,23 @@ module _ (climate block out : List ℕ) (long : length out ≡ 174) where
   refused : (number value : ℕ) → sheetsOf climate block .verdict ≡ Refused number value → sheetTabled climate block out ≡ (Declined number value, out)
   refused number value v = sheets-refused (λ n w. (Declined n w, out)) (λ t. tabled t out) climate block (sheetsOf climate block) refl number value v
 
+  -- Role 1 may look.
+  looked : tabledBy 1 climate block out ≡ sheetTabled climate block out
+  looked = same-for-roles .tables 1 (omega arith) (omega arith) climate block out
+
   -- The table's numbers, read back from the buffer.
   pub record As-rows (k : ℕ) (l : List ℕ) : Type 0 where
     pub few : k ≤ 29
     pub text : cells 0 (take (k * 6) l) ≡ sheetsPrinted climate block
 
-  pub rows-printed : (k : ℕ) (l : List ℕ) → (Rows k, l) ≡ sheetTabled climate block out → As-rows k l
+  pub rows-printed : (k : ℕ) (l : List ℕ) → (Rows k, l) ≡ tabledBy 1 climate block out → As-rows k l
   unfolding onSheets
   rows-printed k l e = go (sheetsOf climate block .verdict) refl
     where
       go : (v : Verdict) → sheetsOf climate block .verdict ≡ v → As-rows k l
       go Accepted v =
           let s = sheetsOf climate block .season in
-          let q = e ∙ accepted v in
+          let q = e ∙ looked ∙ accepted v in
           let same : Rows k ≡ Rows (rowCount s) = ap (λ (p : Tabled × List ℕ). p .0) q in
           let n : k ≡ rowCount s = cc in
           let f : l ≡ table s ++ drop (rowCount s * 6) out = ap (λ (p : Tabled × List ℕ). p .1) q in
@@ -52,16 +58,16 @@ module _ (climate block out : List ℕ) (long : length out ≡ 174) where
             few = omega (arith, rows-at-most s (accepted-season climate block v .valid));
             text = rw (n, f, take-at (table s) (drop (rowCount s * 6) out) (rowCount s * 6) (length-flat (s .efficiency) (rowsTo s _)), v) refl;
           }
-      go (Refused number value) v = absurd (rows-refused k number value (ap (λ (p : Tabled × List ℕ). p .0) (e ∙ refused number value v)))
+      go (Refused number value) v = absurd (rows-refused k number value (ap (λ (p : Tabled × List ℕ). p .0) (e ∙ looked ∙ refused number value v)))
 
-  pub refusal-printed : (number value : ℕ) (l : List ℕ) → (Declined number value, l) ≡ sheetTabled climate block out → cell number 0x20 ++ cell value 0x0a ≡ sheetsPrinted climate block
+  pub refusal-printed : (number value : ℕ) (l : List ℕ) → (Declined number value, l) ≡ tabledBy 1 climate block out → cell number 0x20 ++ cell value 0x0a ≡ sheetsPrinted climate block
   unfolding onSheets
   refusal-printed number value l e = go (sheetsOf climate block .verdict) refl
     where
       go : (v : Verdict) → sheetsOf climate block .verdict ≡ v → cell number 0x20 ++ cell value 0x0a ≡ sheetsPrinted climate block
-      go Accepted v = absurd (rows-refused _ number value (sym (ap (λ (p : Tabled × List ℕ). p .0) (e ∙ accepted v))))
+      go Accepted v = absurd (rows-refused _ number value (sym (ap (λ (p : Tabled × List ℕ). p .0) (e ∙ looked ∙ accepted v))))
       go (Refused m w) v =
-          let same : Declined number value ≡ Declined m w = ap (λ (p : Tabled × List ℕ). p .0) (e ∙ refused m w v) in
+          let same : Declined number value ≡ Declined m w = ap (λ (p : Tabled × List ℕ). p .0) (e ∙ looked ∙ refused m w v) in
           let i : number ≡ m = cc in
           let j : value ≡ w = cc in
           rw (v, i, j)

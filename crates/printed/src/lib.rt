@@ -53,9 +53,9 @@ fn put_cells(text: &mut [u8], rows: &[u32], count: usize) -> usize
     at
 }
 
-// What the program prints of its input, a climate sheet and then a block sheet, from the start of a lent text; how many bytes. What stands beyond stays.
-// Every input's text fits in 4,096 bytes; to a text of fewer none is written. (The second `ensures` follows from the first: with it a caller lends the bytes
-// with no proof.)
+// What the program prints of its input, a climate sheet and then a block sheet, from the start of a lent text; how many bytes. What stands beyond stays. The
+// program looks: role 1. Every input's text fits in 4,096 bytes; to a text of fewer none is written. (The second `ensures` follows from the first: with it a
+// caller lends the bytes with no proof.)
 pub fn print_table(input: &[u8], text: &mut [u8]) -> usize
     ensures { λ r. ⌜ (r, now (text .exit)) ≡ printedTo (now (input .entry)) (now (text .entry)) ⌝ }
     ensures { λ r. ⌜ (r ≤ length (now (text .exit))) × (r ≡ length (take r (now (text .exit)))) ⌝ }
@@ -65,7 +65,7 @@ pub fn print_table(input: &[u8], text: &mut [u8]) -> usize
     }
     let mut rows = [0u32; decades::MOST_NUMBERS];
     let at = sheet::climate_end(input);
-    match controller::table(&input[..at], &input[at..], &mut rows) {
+    match controller::table(1, &input[..at], &input[at..], &mut rows) {
         Tabled::Rows(count) => put_cells(text, &rows, count * 6),
         Tabled::Refused(number, value) => {
             let next = put_cell(text, 0, number as u64, 32);

@@ -23,7 +23,7 @@ put-refusal-requires : tie.Need-put-refusal-requires
 put-refusal-requires c κs =
     let at-number = c .before .before in
     let at-loss = at-number .before .before in
-    holds-by (at-number .number .given .1) (at-loss .loss .ensures) SmallLost (lost-small _ _ _ _)
+    holds-by (at-number .number .given .1) (at-loss .loss .ensures) SmallLost (lost-small _ _ _ _ _)
 
 returns : tie.Need-returns
 returns c =

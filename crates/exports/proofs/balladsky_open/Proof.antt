@@ -1,5 +1,4 @@
 -- By what the opening found: two numbers, the ledger's, the count and the places, or the refusal.
-use mathlib.Core.Path.{_∙_}
 use native.Mathlib.Omega.{arith}
 use denote.Ref.{now}
 use Rattle.journal.specs.declared.Opening.the-variants.{Clean, Torn}
@@ -22,7 +21,7 @@ put-opening-requires : tie.Need-put-opening-requires
 put-opening-requires c κs =
     let at-opening = c .before .before in
     let at-open = at-opening .before .before .before in
-    let small = holds-by (opened-case _ (at-opening .opening .given .1)) (at-open .«open» .ensures) SmallOpened (opened-small _ _ _) in (omega arith, small .opening, small .count, small .places 0, small .places 1, small .places 2)
+    let small = holds-by (opened-case _ (at-opening .opening .given .1)) (at-open .«open» .ensures) SmallOpened (opened-small _ _ _ _) in (omega arith, small .opening, small .count, small .places 0, small .places 1, small .places 2)
 
 enum-known-opening-2 : tie.Need-enum-known-opening-2
 enum-known-opening-2 c = search needs
@@ -31,7 +30,7 @@ put-opening-requires-2 : tie.Need-put-opening-requires-2
 put-opening-requires-2 c κs =
     let at-opening2 = c .before .before in
     let at-open = at-opening2 .before .before .before in
-    let small = holds-by (opened-case _ (at-opening2 .opening2 .given .1)) (at-open .«open» .ensures) SmallOpened (opened-small _ _ _) in (small .opening .1, small .opening .0, small .count, small .places 0, small .places 1, small .places 2)
+    let small = holds-by (opened-case _ (at-opening2 .opening2 .given .1)) (at-open .«open» .ensures) SmallOpened (opened-small _ _ _ _) in (small .opening .1, small .opening .0, small .count, small .places 0, small .places 1, small .places 2)
 
 enum-known-opening-3 : tie.Need-enum-known-opening-3
 enum-known-opening-3 c = search needs
@@ -40,21 +39,21 @@ put-refusal-requires : tie.Need-put-refusal-requires
 put-refusal-requires c κs =
     let at-opening3 = c .before .before in
     let at-open = at-opening3 .before .before .before in
-    holds-by (opened-case _ (at-opening3 .opening3 .given .1)) (at-open .«open» .ensures) SmallOpened (opened-small _ _ _) .opening
+    holds-by (opened-case _ (at-opening3 .opening3 .given .1)) (at-open .«open» .ensures) SmallOpened (opened-small _ _ _ _) .opening
 
 returns : tie.Need-returns
 returns c =
     let at-opening = c .before .before .before in
     let at-open = at-opening .before .before .before in
     let start = at-open .before .before .before .before in
-    written-by (opened-case _ (at-opening .opening .given .1)) (at-open .«open» .ensures) openedOut _ (c .put-opening .ensures ∙ places-over (now (start .args .climate)) (now (start .args .block)) (now (start .args .area)) (at-open .«open» .ensures) (numbersOf (Clean (at-opening .opening .given .0 .0))) (now (start .args .out)))
+    written-by (opened-case _ (at-opening .opening .given .1)) (at-open .«open» .ensures) openedOut _ (places-over (start .args .role) (now (start .args .climate)) (now (start .args .block)) (now (start .args .area)) (at-open .«open» .ensures) (numbersOf (Clean (at-opening .opening .given .0 .0))) (now (start .args .out)) (c .put-opening .ensures))
 
 returns-2 : tie.Need-returns-2
 returns-2 c =
     let at-opening2 = c .before .before .before in
     let at-open = at-opening2 .before .before .before in
     let start = at-open .before .before .before .before in
-    written-by (opened-case _ (at-opening2 .opening2 .given .1)) (at-open .«open» .ensures) openedOut _ (c .put-opening2 .ensures ∙ places-over (now (start .args .climate)) (now (start .args .block)) (now (start .args .area)) (at-open .«open» .ensures) (numbersOf (Torn (at-opening2 .opening2 .given .0 .0) (at-opening2 .opening2 .given .0 .1 .0))) (now (start .args .out)))
+    written-by (opened-case _ (at-opening2 .opening2 .given .1)) (at-open .«open» .ensures) openedOut _ (places-over (start .args .role) (now (start .args .climate)) (now (start .args .block)) (now (start .args .area)) (at-open .«open» .ensures) (numbersOf (Torn (at-opening2 .opening2 .given .0 .0) (at-opening2 .opening2 .given .0 .1 .0))) (now (start .args .out)) (c .put-opening2 .ensures))
 
 returns-3 : tie.Need-returns-3
 returns-3 c =

@@ -11,7 +11,7 @@ use Rattle.exports.proofs.balladsky_plan.Statement.{statement}
 use Rattle.exports.proofs.balladsky_plan.Tie as tie
 
 put-planned-requires : tie.Need-put-planned-requires
-put-planned-requires c κs = rw (ap (λ (a : Planned × List ℕ). a .0) (c .before .before .plan .ensures)) (planned-small _ _ _ _)
+put-planned-requires c κs = rw (ap (λ (a : Planned × List ℕ). a .0) (c .before .before .plan .ensures)) (planned-small _ _ _ _ _)
 
 returns : tie.Need-returns
 returns c = both-by numbersOf _ refl (c .before .before .before .plan .ensures) (c .put-planned .ensures)

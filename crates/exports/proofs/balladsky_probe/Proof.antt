@@ -1,10 +1,8 @@
 -- By the answer's case: two depletions, or the refusal; each probe is that of its kind.
-use mathlib.Core.Path.{_∙_, ap₂}
 use denote.Ref.{now}
-use Rattle.probes.specs.declared.Probe.{Probe}
-use Rattle.controller.specs.Calls.{sheetProbed, probedNumbers}
+use Rattle.controller.specs.Calls.{probedNumbers}
 use Rattle.exports.specs.Small.{SmallProbed}
-use Rattle.exports.proofs.Over.{holds-by, written-by}
+use Rattle.exports.proofs.Over.{holds-by, written-by, probes-are}
 use Rattle.exports.proofs.Bounds.{probed-small}
 use borrow.Author.Needs.{needs}
 use Rattle.exports.proofs.balladsky_probe.Statement.{statement}
@@ -32,7 +30,7 @@ put-refusal-requires : tie.Need-put-refusal-requires
 put-refusal-requires c κs =
     let at-number = c .before .before in
     let at-probe = at-number .before .before in
-    holds-by (at-number .number .given .1) (at-probe .probe .ensures) SmallProbed (probed-small _ _ _ _ _ _)
+    holds-by (at-number .number .given .1) (at-probe .probe .ensures) SmallProbed (probed-small _ _ _ _ _ _ _)
 
 returns : tie.Need-returns
 returns c =
@@ -42,7 +40,7 @@ returns c =
     let at-probe-of = at-probe-of2 .before in
     let a = at-probe-of .before .before .before .before .args in
     written-by (at-ledger .ledger .given .1)
-    (at-probe .probe .ensures ∙ ap₂ (λ (p q : Probe). sheetProbed (now (a .climate)) (now (a .block)) (now (a .area)) p q (a .capacity)) (at-probe-of .probe-of .ensures) (at-probe-of2 .probe-of2 .ensures))
+    (probes-are (a .role) (now (a .climate)) (now (a .block)) (now (a .area)) (a .capacity) (at-probe-of .probe-of .ensures) (at-probe-of2 .probe-of2 .ensures) (at-probe .probe .ensures))
     probedNumbers _ (c .put-depletions .ensures)
 
 returns-2 : tie.Need-returns-2
@@ -53,7 +51,7 @@ returns-2 c =
     let at-probe-of = at-probe-of2 .before in
     let a = at-probe-of .before .before .before .before .args in
     written-by (at-number .number .given .1)
-    (at-probe .probe .ensures ∙ ap₂ (λ (p q : Probe). sheetProbed (now (a .climate)) (now (a .block)) (now (a .area)) p q (a .capacity)) (at-probe-of .probe-of .ensures) (at-probe-of2 .probe-of2 .ensures))
+    (probes-are (a .role) (now (a .climate)) (now (a .block)) (now (a .area)) (a .capacity) (at-probe-of .probe-of .ensures) (at-probe-of2 .probe-of2 .ensures) (at-probe .probe .ensures))
     probedNumbers _ (c .put-refusal .ensures)
 
 pub balladsky-probe-spec : {M : Type 1} → statement M

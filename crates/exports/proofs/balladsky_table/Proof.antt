@@ -15,13 +15,13 @@ put-size-requires : tie.Need-put-size-requires
 put-size-requires c κs =
     let at-count = c .before .before in
     let at-table = at-count .before .before .before .before in
-    holds-by (at-count .count .given .1) (ap (λ (a : Tabled × List ℕ). a .0) (at-table .table .ensures)) SmallTabled (tabled-small _ _ _)
+    holds-by (at-count .count .given .1) (ap (λ (a : Tabled × List ℕ). a .0) (at-table .table .ensures)) SmallTabled (tabled-small _ _ _ _)
 
 put-refusal-requires : tie.Need-put-refusal-requires
 put-refusal-requires c κs =
     let at-number = c .before .before in
     let at-table = at-number .before .before .before .before in
-    holds-by (at-number .number .given .1) (ap (λ (a : Tabled × List ℕ). a .0) (at-table .table .ensures)) SmallTabled (tabled-small _ _ _)
+    holds-by (at-number .number .given .1) (ap (λ (a : Tabled × List ℕ). a .0) (at-table .table .ensures)) SmallTabled (tabled-small _ _ _ _)
 
 returns : tie.Need-returns
 returns c =

@@ -14,7 +14,7 @@ use Rattle.exports.proofs.put_block.Tie as tie
 put-written-requires : tie.Need-put-written-requires
 put-written-requires c κs =
     let start = c .before .before .before .before .before .before in
-    rw (ap (λ (a : Written × List ℕ). a .0) (c .before .before .write-block .ensures)) (block-small (start .args .fields) (now (start .args .block)) (search needs))
+    rw (ap (λ (a : Written × List ℕ). a .0) (c .before .before .write-block .ensures)) (block-small (start .args .role) (start .args .fields) (now (start .args .block)) (search needs))
 
 returns : tie.Need-returns
 returns c = both-by numbersOf _ refl (c .before .before .before .write-block .ensures) (c .put-written .ensures)

@@ -14,7 +14,7 @@ use Rattle.exports.proofs.put_climate.Tie as tie
 put-written-requires : tie.Need-put-written-requires
 put-written-requires c κs =
     let start = c .before .before .before .before .before .before in
-    rw (ap (λ (a : Written × List ℕ). a .0) (c .before .before .write-climate .ensures)) (climate-small (start .args .fields) (now (start .args .climate)) (search needs))
+    rw (ap (λ (a : Written × List ℕ). a .0) (c .before .before .write-climate .ensures)) (climate-small (start .args .role) (start .args .fields) (now (start .args .climate)) (search needs))
 
 returns : tie.Need-returns
 returns c = both-by numbersOf _ refl (c .before .before .before .write-climate .ensures) (c .put-written .ensures)

@@ -1,13 +1,11 @@
 -- By the verdict: the stores, or the refusal.
-use Prim.Native.Nat.{ℕ}
-use mathlib.Core.Path.{ap, _∙_}
-use mathlib.Core.List.{List, _∷_}
+use mathlib.Core.List.{[], _∷_}
 use denote.Ref.{now}
 use Rattle.journal.specs.Claims.{RecordedOccurs}
 use Rattle.controller.proofs.Claims.{claims}
-use Rattle.exports.specs.Written.{writtenOver, recordedOut}
+use Rattle.exports.specs.Written.{recordedOut}
 use Rattle.exports.specs.Small.{SmallRecorded}
-use Rattle.exports.proofs.Over.{holds-by, written-by, entry-case, four-are}
+use Rattle.exports.proofs.Over.{holds-by, written-by, entry-case, bytes-over}
 use Rattle.exports.proofs.Bounds.{recorded-small}
 use borrow.Author.Needs.{needs}
 use Rattle.exports.proofs.put_entry.Statement.{statement}
@@ -20,13 +18,13 @@ put-stores-requires : tie.Need-put-stores-requires
 put-stores-requires c κs =
     let at-enum-told = c .before in
     let at-record = at-enum-told .before .before .before .before in
-    let small = holds-by (entry-case _ (at-enum-told .enum-told .given .1)) (at-record .«record» .ensures) SmallRecorded (recorded-small _ _ _ _) in (small .start, small .count)
+    let small = holds-by (entry-case _ (at-enum-told .enum-told .given .1)) (at-record .«record» .ensures) SmallRecorded (recorded-small _ _ _ _ _) in (small .start, small .count)
 
 put-refusal-requires : tie.Need-put-refusal-requires
 put-refusal-requires c κs =
     let at-verdict = c .before .before in
     let at-record = at-verdict .before .before .before .before in
-    holds-by (entry-case _ (at-verdict .verdict .given .1)) (at-record .«record» .ensures) SmallRecorded (recorded-small _ _ _ _) .verdict
+    holds-by (entry-case _ (at-verdict .verdict .given .1)) (at-record .«record» .ensures) SmallRecorded (recorded-small _ _ _ _ _) .verdict
 
 returns : tie.Need-returns
 returns c =
@@ -35,9 +33,9 @@ returns c =
     let start = at-record .before .before .before .before in
     let w = at-record .«record» .result .stores in
     let case = entry-case _ (at-enum-told .enum-told .given .1) in
-    let size = holds-by case (at-record .«record» .ensures) RecordedOccurs (claims .recorded-occurs _ _ _ _) .size in
+    let size = holds-by case (at-record .«record» .ensures) RecordedOccurs (claims .recorded-occurs _ _ _ _ _) .size in
     written-by case (at-record .«record» .ensures) recordedOut _
-    (c .put-stores .ensures ∙ ap (λ (bs : List ℕ). writtenOver (0 ∷ 0 ∷ w .start ∷ w .count ∷ bs) (now (start .args .out))) (four-are (w .bytes) size))
+    (bytes-over (0 ∷ 0 ∷ w .start ∷ w .count ∷ []) (w .bytes) (now (start .args .out)) size (c .put-stores .ensures))
 
 returns-2 : tie.Need-returns-2
 returns-2 c =

@@ -4,7 +4,7 @@ use mathlib.Core.Path.{refl, ap, _∙_}
 use mathlib.Core.List.{[], _∷_}
 use denote.Ref.{now}
 use Rattle.planner.specs.Answer.{numbersOf}
-use Rattle.exports.specs.Written.{writtenOver}
+use Rattle.answers.specs.Over.{writtenOver}
 use Rattle.exports.specs.Small.{SmallPlanned}
 use Rattle.exports.proofs.Over.{holds-by, written-by}
 use borrow.Author.Needs.{needs}

@@ -47,11 +47,11 @@ block-of c = take (length (input-of (cut-of c)) - cut-of c .climate-end .result)
 
 rows-answered : (c : tie.After-count) →
     let at-table = c .before .before .before in
-    As-rows (climate-of at-table) (block-of at-table) (replicate 174 0) refl (c .count .given .0 .0) (at-table .table .last .1 .1 .0)
+    As-rows (climate-of at-table) (block-of at-table) (replicate 174 0) refl (c .count .given .0 .0) (at-table .table .last .1 .1 .1 .0)
 rows-answered c =
     let at-table = c .before .before .before in
-    rows-printed (climate-of at-table) (block-of at-table) (replicate 174 0) refl _ (at-table .table .last .1 .1 .0)
-    (ap (λ (r : Tabled). (r, at-table .table .last .1 .1 .0)) (sym (c .count .given .1)) ∙ at-table .table .ensures)
+    rows-printed (climate-of at-table) (block-of at-table) (replicate 174 0) refl _ (at-table .table .last .1 .1 .1 .0)
+    (ap (λ (r : Tabled). (r, at-table .table .last .1 .1 .1 .0)) (sym (c .count .given .1)) ∙ at-table .table .ensures)
 
 mul-put-cells : tie.Need-mul-put-cells
 mul-put-cells c = record { fits = omega (arith, rows-answered (c .before .before .before) .few) }
@@ -62,7 +62,7 @@ put-cells-requires c κs =
     let at-table = at-count .before .before .before in
     let at-if1 = cut-of at-table .before in
     let few = rows-answered (at-count) .few in
-    (omega (arith, few, at-table .table .kept .1 .1 .0), omega (arith, few, at-if1 .if1 .left))
+    (omega (arith, few, at-table .table .kept .1 .1 .1 .0), omega (arith, few, at-if1 .if1 .left))
 
 put-cell-requires : tie.Need-put-cell-requires
 put-cell-requires c κs =
@@ -111,8 +111,8 @@ returns-3 c =
     let y = cell (at-number .number .given .0 .1 .0) 10 in
     let two = run-behind x y (now (start .args .text)) _ _ _ _ (at-put-cell .put-cell .ensures .0) (at-put-cell .put-cell .ensures .1) (at-put-cell2 .put-cell2 .ensures .0) (at-put-cell2 .put-cell2 .ensures .1) in
     stored (now (start .args .input)) (x ++ y) (now (start .args .text)) _ _ (at-if1 .if1 .left)
-    (refusal-printed (climate-of at-table) (block-of at-table) (replicate 174 0) refl _ _ (at-table .table .last .1 .1 .0)
-    (ap (λ (r : Tabled). (r, at-table .table .last .1 .1 .0)) (sym (at-number .number .given .1)) ∙ at-table .table .ensures)
+    (refusal-printed (climate-of at-table) (block-of at-table) (replicate 174 0) refl _ _ (at-table .table .last .1 .1 .1 .0)
+    (ap (λ (r : Tabled). (r, at-table .table .last .1 .1 .1 .0)) (sym (at-number .number .given .1)) ∙ at-table .table .ensures)
     ∙ of-parts (input-of (cut-of at-table)) _ (cut-of at-table .climate-end .ensures))
     (omega (arith, at-if1 .if1 .left, length-append x y, cell-of-word (at-number .number .given .0 .0) 32 f, cell-of-word (at-number .number .given .0 .1 .0) 10 h))
     (two .0) (two .1)
