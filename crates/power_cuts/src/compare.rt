@@ -27,7 +27,11 @@ fn same_stores(s: Stores, t: Totals, w: EntryBytes) -> bool {
     check::same(&a, &b)
 }
 
+// The refusal that is expected; 0 is none.
 fn same_refusal(number: u32, value: usize, expected: u64, t: Totals) -> bool {
+    if expected == 0 {
+        return false;
+    }
     if number as u64 != expected {
         return false;
     }
@@ -79,12 +83,14 @@ fn same_ledger(l: Ledger, t: Totals) -> bool {
         && same_stages(stages, needs, uses)
 }
 
-// Clean when no byte is loose, else torn at the ledger's place.
-fn same_found(o: Opening, t: Totals, loose: usize) -> bool {
+// Where `expected` is 0, clean when no byte is loose, else torn at the ledger's place.
+fn same_found(o: Opening, t: Totals, expected: u64, loose: usize) -> bool {
     match o {
-        Opening::Clean(l) => loose == 0 && same_ledger(l, t),
-        Opening::Torn(l, place) => loose != 0 && place as u64 == t.place && same_ledger(l, t),
-        Opening::Refused(_, _) => false,
+        Opening::Clean(l) => expected == 0 && loose == 0 && same_ledger(l, t),
+        Opening::Torn(l, place) => {
+            expected == 0 && loose != 0 && place as u64 == t.place && same_ledger(l, t)
+        }
+        Opening::Refused(number, value) => same_refusal(number, value, expected, t),
     }
 }
 
@@ -96,11 +102,12 @@ fn same_wipes(places: [usize; 3], count: usize, w: Wipes) -> bool {
         && places[2] as u64 == expected[2]
 }
 
-// The whole answer: what is found, and the places of the loose bytes that are not FF, highest first, 0 past their count.
-pub fn same_opening(r: Opened, t: Totals, bytes: [u8; 4], loose: usize) -> bool {
+// The whole answer to a role: what is found, and the places of the loose bytes that it mends and that are not FF, highest first, 0 past their count.
+pub fn same_opening(role: u32, r: Opened, t: Totals, bytes: [u8; 4], loose: usize) -> bool {
     let o = r.opening;
     let places = r.places;
-    same_found(o, t, loose) && same_wipes(places, r.count, wipes_of(&bytes, loose, t.place))
+    let w = wipes_of(&bytes, model::mended(role, loose), t.place);
+    same_found(o, t, model::look_refusal(role), loose) && same_wipes(places, r.count, w)
 }
 
 fn same_losses(p: Losses, t: Totals, ky: u32) -> bool {
@@ -114,8 +121,8 @@ fn same_losses(p: Losses, t: Totals, ky: u32) -> bool {
 }
 
 // The model's losses by a Ky, or its refusal.
-pub fn same_loss(l: Lost, t: Totals, loose: usize, ky: u32) -> bool {
-    let expected = model::loss_refusal(loose, ky);
+pub fn same_loss(role: u32, l: Lost, t: Totals, loose: usize, ky: u32) -> bool {
+    let expected = model::loss_refusal(role, loose, ky);
     match l {
         Lost::Parts(p) => expected == 0 && same_losses(p, t, ky),
         Lost::Refused(number, value) => same_refusal(number, value, expected, t),

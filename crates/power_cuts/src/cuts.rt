@@ -5,6 +5,7 @@ use crate::loose;
 use crate::model;
 use crate::model::Block;
 use crate::model::EntryBytes;
+use crate::model::Totals;
 use crate::print;
 use crate::print_number;
 use journal::Recorded;
@@ -41,12 +42,12 @@ fn with_verdict(b: Book, same: bool) -> Book {
     book_of(b.count, b.loose, bytes, b.same && same)
 }
 
-fn recorded(climate: &[u8], block: &[u8], area: &[u8], call: u32) -> Recorded {
+fn recorded(role: u32, climate: &[u8], block: &[u8], area: &[u8], call: u32) -> Recorded {
     let amount = model::amount_of(call);
     match model::kind_of(call) {
-        model::RAIN => controller::rain(climate, block, area, amount),
-        model::IRRIGATION => controller::irrigation(climate, block, area, amount),
-        _ => controller::close(climate, block, area),
+        model::RAIN => controller::rain(role, climate, block, area, amount),
+        model::IRRIGATION => controller::irrigation(role, climate, block, area, amount),
+        _ => controller::close(role, climate, block, area),
     }
 }
 
@@ -61,8 +62,9 @@ fn entered(entries: &mut [u32], b: Book, call: u32, w: EntryBytes, done: usize) 
     book_of(count, 0, bytes, b.same)
 }
 
-// Rain, irrigation or close, of whose stores so many are done.
+// Rain, irrigation or close by a role, of whose stores so many are done.
 fn record(
+    role: u32,
     climate: &[u8],
     block: &[u8],
     numbers: Block,
@@ -74,19 +76,22 @@ fn record(
 ) -> Book {
     let t = model::worked(numbers, entries, b.count);
     let size = area.len() as u64;
-    let expected = model::refusal(numbers, t, b.loose, size, call);
+    let expected = model::refusal(role, numbers, t, b.loose, size, call);
     let w = model::written(model::kind_of(call), model::number_of(t, call));
-    let r = recorded(climate, block, area, call);
+    let r = recorded(role, climate, block, area, call);
     let next = with_verdict(b, compare::same_record(r, t, expected, w));
+    trial::store(area, r, done);
     if expected != 0 {
         return next;
     }
-    trial::store(area, r, done);
     entered(entries, next, call, w, done)
 }
 
-// The model after so many stores of an opening: once all loose bytes are FF, none is loose.
-fn wiped(b: Book, done: usize) -> Book {
+// The model after so many stores of an opening by a role: once all loose bytes are FF, none is loose. It stays where the role does not mend.
+fn wiped(role: u32, b: Book, done: usize) -> Book {
+    if role != model::MEND {
+        return b;
+    }
     let mut bytes = b.bytes;
     loose::wipe(&mut bytes, b.loose, done);
     if loose::unwiped(&bytes, b.loose, 0) == 4 {
@@ -95,8 +100,9 @@ fn wiped(b: Book, done: usize) -> Book {
     book_of(b.count, b.loose, bytes, b.same)
 }
 
-// Open, of whose stores so many are done.
+// Open by a role, of whose stores so many are done.
 fn open(
+    role: u32,
     climate: &[u8],
     block: &[u8],
     numbers: Block,
@@ -106,17 +112,39 @@ fn open(
     done: usize,
 ) -> Book {
     let t = model::worked(numbers, entries, b.count);
-    let r = controller::open(climate, block, area);
+    let r = controller::open(role, climate, block, area);
     let bytes = b.bytes;
-    let next = with_verdict(b, compare::same_opening(r, t, bytes, b.loose));
+    let next = with_verdict(b, compare::same_opening(role, r, t, bytes, b.loose));
     trial::store_opening(area, r, done);
-    wiped(next, done)
+    wiped(role, next, done)
 }
 
 // A yield response factor, and one that is refused.
 const KY: u32 = 125;
 
 const NO_KY: u32 = 0;
+
+// The first number past the roles.
+const NO_ROLE: u32 = 4;
+
+// Whether the loss to a role is the model's.
+fn same_loss(
+    role: u32,
+    climate: &[u8],
+    block: &[u8],
+    area: &[u8],
+    t: Totals,
+    loose: usize,
+    ky: u32,
+) -> bool {
+    compare::same_loss(
+        role,
+        controller::loss(role, climate, block, area, ky),
+        t,
+        loose,
+        ky,
+    )
+}
 
 // The opening and the losses after a call; no store is done.
 fn opened(
@@ -129,19 +157,17 @@ fn opened(
 ) -> Book {
     let t = model::worked(numbers, entries, b.count);
     let bytes = b.bytes;
-    let same = compare::same_opening(controller::open(climate, block, area), t, bytes, b.loose)
-        && compare::same_loss(controller::loss(climate, block, area, KY), t, b.loose, KY)
-        && compare::same_loss(
-            controller::loss(climate, block, area, NO_KY),
-            t,
-            b.loose,
-            NO_KY,
-        );
+    let r = controller::open(model::MEND, climate, block, area);
+    let same = compare::same_opening(model::MEND, r, t, bytes, b.loose)
+        && same_loss(model::LOOK, climate, block, area, t, b.loose, KY)
+        && same_loss(model::LOOK, climate, block, area, t, b.loose, NO_KY)
+        && same_loss(NO_ROLE, climate, block, area, t, b.loose, NO_KY);
     with_verdict(b, same)
 }
 
-// A call with so many stores done, and the opening and the losses after it.
-fn step(
+// A call by a role, of whose stores so many are done.
+fn make(
+    role: u32,
     climate: &[u8],
     block: &[u8],
     numbers: Block,
@@ -152,14 +178,111 @@ fn step(
     done: usize,
 ) -> Book {
     if model::kind_of(call) == model::OPEN {
-        let next = open(climate, block, numbers, area, entries, b, done);
-        return opened(climate, block, numbers, area, entries, next);
+        return open(role, climate, block, numbers, area, entries, b, done);
     }
-    let next = record(climate, block, numbers, area, entries, b, call, done);
+    record(role, climate, block, numbers, area, entries, b, call, done)
+}
+
+// A call by one role and then by another, all their stores done.
+fn make_twice(
+    role: u32,
+    other: u32,
+    climate: &[u8],
+    block: &[u8],
+    numbers: Block,
+    area: &mut [u8],
+    entries: &mut [u32],
+    b: Book,
+    call: u32,
+) -> Book {
+    let next = make(role, climate, block, numbers, area, entries, b, call, 4);
+    make(other, climate, block, numbers, area, entries, next, call, 4)
+}
+
+// A call by numbers that are no role, and by role 1: the area and the model stay.
+fn make_without_effect(
+    climate: &[u8],
+    block: &[u8],
+    numbers: Block,
+    area: &mut [u8],
+    entries: &mut [u32],
+    b: Book,
+    call: u32,
+) -> Book {
+    let next = make_twice(0, NO_ROLE, climate, block, numbers, area, entries, b, call);
+    make_twice(
+        0xffffffff,
+        model::LOOK,
+        climate,
+        block,
+        numbers,
+        area,
+        entries,
+        next,
+        call,
+    )
+}
+
+// The role that makes a call of a history.
+fn role_of(call: u32) -> u32 {
+    if model::kind_of(call) == model::OPEN {
+        model::MEND
+    } else {
+        model::RECORD
+    }
+}
+
+// A call with so many stores done, made without effect before that, and the opening and the losses after it.
+fn step(
+    climate: &[u8],
+    block: &[u8],
+    numbers: Block,
+    area: &mut [u8],
+    entries: &mut [u32],
+    b: Book,
+    call: u32,
+    done: usize,
+) -> Book {
+    let before = make_without_effect(climate, block, numbers, area, entries, b, call);
+    let role = role_of(call);
+    let next = make(
+        role,
+        climate,
+        block,
+        numbers,
+        area,
+        entries,
+        before,
+        call,
+        done,
+    );
     opened(climate, block, numbers, area, entries, next)
 }
 
-// After the cut call: an opening whose stores are cut too, and a whole one.
+// Openings by roles 1 and 2, and the opening and the losses after them: the area and the model stay.
+fn look(
+    climate: &[u8],
+    block: &[u8],
+    numbers: Block,
+    area: &mut [u8],
+    entries: &mut [u32],
+    b: Book,
+) -> Book {
+    let next = make_twice(
+        model::LOOK,
+        model::RECORD,
+        climate,
+        block,
+        numbers,
+        area,
+        entries,
+        b,
+        model::OPEN,
+    );
+    opened(climate, block, numbers, area, entries, next)
+}
+
+// After the cut call: openings by roles 1 and 2, one by role 3 whose stores are cut too, and a whole one.
 fn recover(
     climate: &[u8],
     block: &[u8],
@@ -173,8 +296,9 @@ fn recover(
     if !here {
         return b;
     }
+    let looked = look(climate, block, numbers, area, entries, b);
     if reopened == 4 {
-        return b;
+        return looked;
     }
     let next = step(
         climate,
@@ -182,7 +306,7 @@ fn recover(
         numbers,
         area,
         entries,
-        b,
+        looked,
         model::OPEN,
         reopened,
     );

@@ -1,5 +1,5 @@
 // Histories of calls, the power cut after every single store of every call: each call's answer, and the opening and the losses after it, are
-// compared with the model's.
+// compared with the model's. Role 2 enters and role 3 opens; a call by another role leaves the journal, and the model says so.
 mod compare;
 mod cuts;
 mod histories;
@@ -95,7 +95,7 @@ fn main() {
         && cut_long()
     {
         print(
-            b"each after 0, 1, 2 and 3 stores, with no opening's stores done or an opening cut after 0, 1, 2 and 3: no difference\n",
+            b"each after 0 to 3 stores, opened by roles 1 and 2, with no opening's stores done or an opening by role 3 cut after 0 to 3: no difference\n",
         );
     }
 }

@@ -1,4 +1,5 @@
 // Days closed one after another, from their lines: a line that starts with '+' is a day.
+use crate::roles;
 use crate::rules;
 use crate::sheets;
 use journal::Ledger;
@@ -56,7 +57,7 @@ fn enter_rain(climate: &[u8], block: &[u8], area: &mut [u8], amount: u32) {
     if amount == 0 {
         return;
     }
-    let r = controller::rain(climate, block, area, amount);
+    let r = controller::rain(roles::RECORD, climate, block, area, amount);
     trial::store(area, r, ALL);
 }
 
@@ -64,12 +65,12 @@ fn enter_irrigation(climate: &[u8], block: &[u8], area: &mut [u8], amount: u32) 
     if amount == 0 {
         return;
     }
-    let r = controller::irrigation(climate, block, area, amount);
+    let r = controller::irrigation(roles::RECORD, climate, block, area, amount);
     trial::store(area, r, ALL);
 }
 
 fn enter_close(climate: &[u8], block: &[u8], area: &mut [u8]) {
-    let r = controller::close(climate, block, area);
+    let r = controller::close(roles::RECORD, climate, block, area);
     trial::store(area, r, ALL);
 }
 
@@ -114,17 +115,21 @@ fn ledger_number(l: Ledger, which: u32) -> u64 {
     }
 }
 
-// A number of what opening answers: 1 open day, 2 depletion, 3 and 4 waiting rain and irrigation, 5 and 6 season rain
-// and irrigation, 7 use, 8 percolation, 9 the place, 10 the season's need, 11 to 18 need and use of the four stages. 0
-// where the journal is not clean.
-fn opened(climate: &[u8], block: &[u8], area: &[u8], which: u32) -> u64 {
-    let r = controller::open(climate, block, area);
-    let o = r.opening;
+// A number of the ledger that opening finds: 1 open day, 2 depletion, 3 and 4 waiting rain and irrigation, 5 and 6 season
+// rain and irrigation, 7 use, 8 percolation, 9 the place, 10 the season's need, 11 to 18 need and use of the four
+// stages. 0 where it refuses.
+pub fn number_in(o: Opening, which: u32) -> u64 {
     match o {
         Opening::Clean(l) => ledger_number(l, which),
-        Opening::Torn(_, _) => 0,
+        Opening::Torn(l, _) => ledger_number(l, which),
         Opening::Refused(_, _) => 0,
     }
+}
+
+fn opened(climate: &[u8], block: &[u8], area: &[u8], which: u32) -> u64 {
+    let r = controller::open(roles::MEND, climate, block, area);
+    let o = r.opening;
+    number_in(o, which)
 }
 
 fn loss_number(p: Losses, which: u32) -> u64 {
@@ -140,8 +145,8 @@ fn loss_number(p: Losses, which: u32) -> u64 {
 
 // A number of what loss answers: 19 whether it refuses, 20 the season's, 21 to 24 the stages'. Where it refuses, all are
 // the refusal's number × 1000 and the number returned with it.
-fn loss_by(climate: &[u8], block: &[u8], area: &[u8], which: u32, ky: u32) -> u64 {
-    match controller::loss(climate, block, area, ky) {
+pub fn loss_by(role: u32, climate: &[u8], block: &[u8], area: &[u8], which: u32, ky: u32) -> u64 {
+    match controller::loss(role, climate, block, area, ky) {
         Lost::Parts(p) => loss_number(p, which),
         Lost::Refused(number, value) => sheets::refusal_code(number, value),
     }
@@ -152,5 +157,5 @@ pub fn number_of(climate: &[u8], block: &[u8], area: &[u8], which: u32, ky: u32)
     if which < 19 {
         return opened(climate, block, area, which);
     }
-    loss_by(climate, block, area, which, ky)
+    loss_by(roles::LOOK, climate, block, area, which, ky)
 }

@@ -11,6 +11,7 @@
 // is written, unless a figure's inputs set field 41.
 mod ledger;
 mod probing;
+mod roles;
 mod rules;
 mod sheets;
 mod text;
@@ -284,6 +285,7 @@ fn run_exact_rules(before: Tally) -> Tally {
         .run(b"rule_journal", rules::JOURNAL)
         .run(b"rule_losses", rules::JOURNAL)
         .run(b"rule_probes", rules::PROBE)
+        .run(b"rule_roles", rules::ROLE)
 }
 
 // Document 01's rules by a separate reading of them: whole seasons.

@@ -1,4 +1,5 @@
 // What the product answers of soil probes, by the bits of their values.
+use crate::roles;
 use crate::sheets;
 use controller::Probed;
 use probes::Probe;
@@ -41,7 +42,8 @@ pub fn reading(numbers: &[u32]) -> u64 {
 pub fn number_of(climate: &[u8], block: &[u8], area: &[u8], numbers: &[u32]) -> u64 {
     let shallow = probe_of(get(numbers, 5), get(numbers, 6), get(numbers, 7));
     let deep = probe_of(get(numbers, 8), get(numbers, 9), get(numbers, 10));
-    match controller::probe(climate, block, area, shallow, deep, get(numbers, 11)) {
+    let capacity = get(numbers, 11);
+    match controller::probe(roles::LOOK, climate, block, area, shallow, deep, capacity) {
         Probed::Depletions(ledger, measured) => depletion(get(numbers, 4), ledger, measured),
         Probed::Refused(number, value) => sheets::refusal_code(number, value),
     }

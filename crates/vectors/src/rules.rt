@@ -3,6 +3,7 @@
 // then fields of the sheets with their values.
 use crate::ledger;
 use crate::probing;
+use crate::roles;
 use crate::sheets;
 use crate::text;
 use crate::writing;
@@ -95,6 +96,9 @@ pub const JOURNAL: u32 = 27;
 
 // A number of what the probes mean beside that journal, by their kinds and bits and a field capacity.
 pub const PROBE: u32 = 28;
+
+// A number of what a call answers by a role, on that journal.
+pub const ROLE: u32 = 29;
 
 // Effective rain.
 fn rain(q: u32) -> u64 {
@@ -219,8 +223,8 @@ fn own_fields(fields: [u32; 41], numbers: &[u32]) -> [u32; 41] {
 // A figure of a season or of the writers, from forty-one numbers.
 fn of_fields(rule: u32, own: [u32; 41], a: u32, b: u32) -> u64 {
     match rule {
-        CLIMATE => writing::climate_in_room(own, a, b),
-        BLOCK => writing::block_in_room(own, a, b),
+        CLIMATE => writing::climate_in_room(roles::LOOK, own, a, b),
+        BLOCK => writing::block_in_room(roles::LOOK, own, a, b),
         WRITE => writing::refusal(own),
         _ => {
             let mut climate = [0u8; 73];
@@ -260,7 +264,7 @@ pub fn answer(rule: u32, numbers: &[u32], fields: [u32; 41]) -> u64 {
 }
 
 // The same of the days closed so far: a number of the balance; or a byte of the journal, or a number of its opening, of
-// its loss or of the probes.
+// its loss, of the probes or of a call by a role.
 pub fn answer_after_days(
     rule: u32,
     numbers: &[u32],
@@ -277,6 +281,9 @@ pub fn answer_after_days(
     let m = io::count(sheets::write_block(fields, &mut block), &block);
     if rule == PROBE {
         return probing::number_of(&climate[..n], &block[..m], area, numbers);
+    }
+    if rule == ROLE {
+        return roles::number_of(&climate[..n], &block[..m], area, fields, numbers);
     }
     of_journal(
         &climate[..n],

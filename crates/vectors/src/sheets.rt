@@ -1,4 +1,5 @@
 // A climate sheet and a block sheet from a line's numbers, and what the product says of a day of their season.
+use crate::roles::LOOK;
 use decades::MOST_NUMBERS;
 use decades::MOST_ROWS;
 use decades::Tabled;
@@ -68,7 +69,11 @@ pub fn write_block(fields: [u32; 41], bytes: &mut [u8]) -> isize {
 pub fn refusal(climate: &[u8], block: &[u8]) -> u64 {
     let read = sheet::read(climate, block);
     let verdict = read.verdict;
-    match verdict {
+    verdict_code(verdict)
+}
+
+pub fn verdict_code(v: Verdict) -> u64 {
+    match v {
         Verdict::Accepted => 0,
         Verdict::Refused(number, value) => refusal_code(number, value),
     }
@@ -148,7 +153,7 @@ pub fn day_numbers(climate: &[u8], block: &[u8], day: u32) -> DayNumbers {
 
 // How many rows the decade table has; its rows go to a lent buffer.
 pub fn row_count(climate: &[u8], block: &[u8], rows: &mut [u32]) -> usize {
-    match controller::table(climate, block, rows) {
+    match controller::table(LOOK, climate, block, rows) {
         Tabled::Rows(count) => count,
         Tabled::Refused(_, _) => 0,
     }
@@ -198,7 +203,7 @@ pub fn column_sum(climate: &[u8], block: &[u8], column: u32) -> u64 {
 // The days before the first that no choice holds, on a blank journal; 0 where there is none.
 pub fn days_held(climate: &[u8], block: &[u8]) -> u64 {
     let mut depths = [0u32; LONGEST_SEASON];
-    match controller::plan(climate, block, b"", &mut depths) {
+    match controller::plan(LOOK, climate, block, b"", &mut depths) {
         Planned::Made(_, _, _) => 0,
         Planned::Refused(number, day) => before(number, day),
     }
@@ -244,7 +249,7 @@ fn quotient(n: u64, count: u64) -> u64 {
 // gross total.
 pub fn plan_number(climate: &[u8], block: &[u8], which: u32) -> u64 {
     let mut depths = [0u32; LONGEST_SEASON];
-    match controller::plan(climate, block, b"", &mut depths) {
+    match controller::plan(LOOK, climate, block, b"", &mut depths) {
         Planned::Refused(number, day) => if which == 1 {
             refusal_code(number, day)
         } else {
@@ -265,7 +270,7 @@ pub fn depth(climate: &[u8], block: &[u8], day: u32) -> u64 {
     if day < 1 {
         return 0;
     }
-    match controller::plan(climate, block, b"", &mut depths) {
+    match controller::plan(LOOK, climate, block, b"", &mut depths) {
         Planned::Refused(_, _) => 0,
         Planned::Made(_, _, _) => get(&depths, (day - 1) as usize) as u64,
     }

@@ -2,6 +2,7 @@
 // its label stands behind.
 use libc::STDOUT_FILENO;
 use trial::get;
+use trial::narrow;
 use trial::put;
 use trial::put_byte;
 use trial::saturating_add;
@@ -15,13 +16,13 @@ pub fn is_digit(b: u8) -> bool {
     b < 58
 }
 
-// A number with one digit more.
+// A number with one digit more, or the largest number where that is more.
 fn with_digit(n: u32, b: u8) -> u32 {
     if b < 48 {
         return n;
     }
     let digit = wide(b - 48);
-    if n < 100000000 { n * 10 + digit } else { n }
+    narrow(n as u64 * 10 + digit as u64)
 }
 
 fn wide(b: u8) -> u32

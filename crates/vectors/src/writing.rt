@@ -1,4 +1,5 @@
 // What the product's writers make of a line's forty-one numbers: a climate sheet and a block sheet.
+use crate::roles::LOOK;
 use crate::sheets;
 use sheet::Written;
 use trial::get;
@@ -41,8 +42,8 @@ fn code(made: Written) -> u64 {
 }
 
 // The same of the climate's writer in a lent buffer; or, where `which` is not 0, that byte of the buffer, counted from 1.
-fn climate_in(fields: [u32; 41], buffer: &mut [u8], which: u32) -> u64 {
-    let made = code(controller::write_climate(climate_of(fields), buffer));
+fn climate_in(role: u32, fields: [u32; 41], buffer: &mut [u8], which: u32) -> u64 {
+    let made = code(controller::write_climate(role, climate_of(fields), buffer));
     if which == 0 {
         return made;
     }
@@ -50,8 +51,8 @@ fn climate_in(fields: [u32; 41], buffer: &mut [u8], which: u32) -> u64 {
 }
 
 // The same of the block's.
-fn block_in(fields: [u32; 41], buffer: &mut [u8], which: u32) -> u64 {
-    let made = code(controller::write_block(block_of(fields), buffer));
+fn block_in(role: u32, fields: [u32; 41], buffer: &mut [u8], which: u32) -> u64 {
+    let made = code(controller::write_block(role, block_of(fields), buffer));
     if which == 0 {
         return made;
     }
@@ -59,25 +60,25 @@ fn block_in(fields: [u32; 41], buffer: &mut [u8], which: u32) -> u64 {
 }
 
 // The same of the climate's in a buffer of so many bytes EE, at most 73.
-pub fn climate_in_room(fields: [u32; 41], room: u32, which: u32) -> u64 {
+pub fn climate_in_room(role: u32, fields: [u32; 41], room: u32, which: u32) -> u64 {
     let mut buffer = [0xEEu8; 73];
     let n = io::count(room as isize, &buffer);
-    climate_in(fields, &mut buffer[..n], which)
+    climate_in(role, fields, &mut buffer[..n], which)
 }
 
 // The same of the block's, at most 52.
-pub fn block_in_room(fields: [u32; 41], room: u32, which: u32) -> u64 {
+pub fn block_in_room(role: u32, fields: [u32; 41], room: u32, which: u32) -> u64 {
     let mut buffer = [0xEEu8; 52];
     let n = io::count(room as isize, &buffer);
-    block_in(fields, &mut buffer[..n], which)
+    block_in(role, fields, &mut buffer[..n], which)
 }
 
 // 0 where both sheets are made, or the climate's refusal, else the block's: its number × 1000 and the number returned.
 pub fn refusal(fields: [u32; 41]) -> u64 {
-    let climate = climate_in_room(fields, 73, 0);
+    let climate = climate_in_room(LOOK, fields, 73, 0);
     if 1000 <= climate {
         return climate;
     }
-    let block = block_in_room(fields, 52, 0);
+    let block = block_in_room(LOOK, fields, 52, 0);
     if 1000 <= block { block } else { 0 }
 }
