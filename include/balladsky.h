@@ -5,6 +5,8 @@
  * states them.
  *
  * PARAMETERS
+ *   role                 Who calls: BALLADSKY_LOOK, BALLADSKY_RECORD or BALLADSKY_MEND. Any number; one outside 1 to
+ *                        3 is refusal 20.
  *   climate, block       The two sheets, read only, each with its length. The climate sheet has 24 numbers, fields 10
  *                        to 33: ETo of January to December, then their rain. The block sheet has 16, fields 1 to 9
  *                        and 34 to 40, or 17 where February has 29 days, field 41. Any climate sheet goes with any
@@ -39,18 +41,29 @@
  * Numbers of out beyond the answer, and what a lent buffer has beyond the depths, rows or bytes, stay as they were. A
  * refusal writes out[0] and out[1], and no lent buffer.
  *
+ * ROLES: every call takes one first, and judges it before it looks at anything else.
+ *   1 looks: every call but rain, irrigation and close, which are refused 21.
+ *   2 also records: rain, irrigation and close.
+ *   3 also mends: only role 3 is handed the stores of an opening. Roles 1 and 2 get the ledger, clean or torn as role 3
+ *   does, and out[20] to out[23] written as 0.
+ *   All else is answered alike to every role that may call. Role 1 is handed no stores at all: whatever it calls, the
+ *   journal stays as it was.
+ *   At start-up firmware opens as role 3, whoever stands at the panel: while the journal is torn, role 2's entries are
+ *   refused 10, and nothing but the stores of an opening as role 3 sets it going again.
+ *
  * STORES: you do them, one byte at a time, each whole or not at all.
  *   rain, irrigation, close: the bytes out[4], out[5].. at the places out[2], out[2] + 1.., out[3] of them, lowest
  *   place first.
- *   open: FF at the places out[21], out[22].., out[20] of them, in that order, highest place first; none where clean.
+ *   open as role 3: FF at the places out[21], out[22].., out[20] of them, in that order, highest place first; none
+ *   where clean.
  * Until a call's stores are done, make no other call on that area but after a power cut.
  * KEEP THE SHEETS of a journal as they were while it was blank. It holds what was entered, and each call works the
  * ledger out from the sheets: another climate sheet gives another ledger, and nothing tells. So does another block
  * sheet, unless its season has fewer days than are closed: then the journal is damaged.
- * RECOVERY is one call. After a cut between any two stores open finds the journal clean or torn, with the ledger of all
- * that was entered whole, which holds already; do its stores, then enter again what was cut. Its stores may be cut in
- * turn: open again, and it hands back those that are left. Until they are done the journal is torn, and every entry,
- * the plan, the loss and the probe are refused 10.
+ * RECOVERY is one call, open as role 3. After a cut between any two stores it finds the journal clean or torn, with the
+ * ledger of all that was entered whole, which holds already; do its stores, then enter again what was cut. Its stores
+ * may be cut in turn: open again, and it hands back those that are left. Until they are done the journal is torn, and
+ * every entry, the plan, the loss and the probe are refused 10.
  *
  * STACK, THREADS AND SIGNALS
  *   Stack on x86-64, beside what memcpy and memset take: the plan less than 2,800 bytes, the probe less than 1,500,
@@ -81,6 +94,13 @@ extern "C" {
 #define BALLADSKY_CLIMATE_FIELDS 24 /* numbers of a climate's fields */
 #define BALLADSKY_BLOCK_FIELDS 17   /* numbers of a block's fields, the days of February among them */
 
+/* Who calls: role. */
+enum {
+    BALLADSKY_LOOK = 1,   /* every call but rain, irrigation and close */
+    BALLADSKY_RECORD = 2, /* those too */
+    BALLADSKY_MEND = 3    /* all that, and an opening hands it the stores that mend */
+};
+
 /* What a probe gives: shallow_kind and deep_kind. */
 enum {
     BALLADSKY_PROBE_SILENT = 0, /* nothing */
@@ -88,9 +108,9 @@ enum {
     BALLADSKY_PROBE_LOW = 2     /* its supply voltage: the battery is low */
 };
 
-/* What out[0] says. A refusal is the first that applies, read downward but for 17, of those that the call gives: 1 to 4
- * for the climate sheet, then 1 to 4 for the block sheet, then the others. In brackets what out[1] then is; else it is
- * 0. None passes 8,192.
+/* What out[0] says. A refusal is the first that applies of those that the call gives: 20 and 21, then 1 to 4 for the
+ * climate sheet, then 1 to 4 for the block sheet, then the others, read downward but for 17. In brackets what out[1]
+ * then is; else it is 0. None passes 8,192.
  *
  * 1 to 4 are one sheet's: a length or a place is counted in that sheet, and out does not say which of the two it is. A
  * field keeps its number: 10 to 33 are the climate's, and where fields 1 and 20 are out of range, 4 comes with 20.
@@ -107,7 +127,9 @@ enum {
  * 17 is given by loss, right after 9 and before 10, where ky is outside 1 to 200: with ky 0 a damaged journal is
  * refused 9, and a torn one 17.
  * 18 and 19 are given by probe, after 11. 18 looks at each content, even where the other probe's is fine, and at
- * capacity: with capacity 0 two silent probes are refused 18. */
+ * capacity: with capacity 0 two silent probes are refused 18.
+ * 20 is given by every call, 21 by rain, irrigation and close: role 0 with an empty climate sheet is refused 20, and
+ * rain of 0 by role 1 on a damaged journal 21. */
 enum {
     BALLADSKY_ACCEPTED = 0,              /* accepted; open: the journal is clean */
     BALLADSKY_SHEET_ENDS = 1,            /* the climate sheet ends before its twenty-fourth number is whole, the block
@@ -131,7 +153,9 @@ enum {
     BALLADSKY_NO_CHOICE = 16,            /* no choice of depths holds [the first day that none holds] */
     BALLADSKY_KY_OUT_OF_RANGE = 17,      /* Ky is outside 1 to 200 */
     BALLADSKY_CONTENT_OUT_OF_RANGE = 18, /* a content is no number from 0 to 1, or the capacity is outside 1 to 6,000 */
-    BALLADSKY_NO_CONTENT = 19            /* neither probe gives a content */
+    BALLADSKY_NO_CONTENT = 19,           /* neither probe gives a content */
+    BALLADSKY_ROLE_OUT_OF_RANGE = 20,    /* the role is outside 1 to 3 */
+    BALLADSKY_ROLE_MAY_NOT_RECORD = 21   /* role 1 enters rain, irrigation or a close */
 };
 
 /* Opens the journal. Clean or torn: out[2] open day (days + 1 when all are closed), [3] depletion, [4] waiting rain,
@@ -139,60 +163,63 @@ enum {
  * place after the last entry, [11] season need: what the crop would have used on the closed days without stress. Then
  * need and use on the closed days of each stage: [12] and [13] initial, [14] and [15] development, [16] and [17] mid,
  * [18] and [19] late. Then the stores that mend a torn journal: [20] how many places to set to FF, [21] to [23] three
- * places, highest first, 0 past the count; all four are 0 where it is clean. Refusals 1 to 9. */
-void balladsky_open(const uint8_t *climate, size_t climate_length, const uint8_t *block, size_t block_length,
-    const uint8_t *area, size_t area_length, uint32_t *out);
+ * places, highest first, 0 past the count; all four are 0 where it is clean, and for roles 1 and 2. Refusals 20, then 1
+ * to 9. */
+void balladsky_open(uint32_t role, const uint8_t *climate, size_t climate_length, const uint8_t *block,
+    size_t block_length, const uint8_t *area, size_t area_length, uint32_t *out);
 
-/* Enters rain of the open day. Accepted: out[2] start, [3] count, [4] to [7] four bytes, 0 past the count. Refusals 1
- * to 14. */
-void balladsky_rain(const uint8_t *climate, size_t climate_length, const uint8_t *block, size_t block_length,
-    const uint8_t *area, size_t area_length, uint32_t amount, uint32_t *out);
+/* Enters rain of the open day. Accepted: out[2] start, [3] count, [4] to [7] four bytes, 0 past the count. Refusals 20
+ * and 21, then 1 to 14. */
+void balladsky_rain(uint32_t role, const uint8_t *climate, size_t climate_length, const uint8_t *block,
+    size_t block_length, const uint8_t *area, size_t area_length, uint32_t amount, uint32_t *out);
 
-/* Enters irrigation of the open day, a net amount. As rain. Refusals 1 to 14. */
-void balladsky_irrigation(const uint8_t *climate, size_t climate_length, const uint8_t *block, size_t block_length,
-    const uint8_t *area, size_t area_length, uint32_t amount, uint32_t *out);
+/* Enters irrigation of the open day, a net amount. As rain. Refusals 20 and 21, then 1 to 14. */
+void balladsky_irrigation(uint32_t role, const uint8_t *climate, size_t climate_length, const uint8_t *block,
+    size_t block_length, const uint8_t *area, size_t area_length, uint32_t amount, uint32_t *out);
 
-/* Closes the open day. As rain. Refusals 1 to 11, and 14. */
-void balladsky_close(const uint8_t *climate, size_t climate_length, const uint8_t *block, size_t block_length,
-    const uint8_t *area, size_t area_length, uint32_t *out);
+/* Closes the open day. As rain. Refusals 20 and 21, then 1 to 11, and 14. */
+void balladsky_close(uint32_t role, const uint8_t *climate, size_t climate_length, const uint8_t *block,
+    size_t block_length, const uint8_t *area, size_t area_length, uint32_t *out);
 
 /* The yield that stress on the closed days has cost, by one Ky. Accepted: out[2] the season's loss, [3] the initial
  * stage's, [4] development's, [5] mid's, [6] late's, in ten-thousandths: 100 * ky * (need - use) / need, rounded down,
  * at most 10,000, and 0 where the need is 0; need and use are the season's or the stage's that open answers. It answers
- * when all days are closed too. Refusals 1 to 9, then 17, then 10. */
-void balladsky_loss(const uint8_t *climate, size_t climate_length, const uint8_t *block, size_t block_length,
-    const uint8_t *area, size_t area_length, uint32_t ky, uint32_t *out);
+ * when all days are closed too. Refusals 20, then 1 to 9, then 17, then 10. */
+void balladsky_loss(uint32_t role, const uint8_t *climate, size_t climate_length, const uint8_t *block,
+    size_t block_length, const uint8_t *area, size_t area_length, uint32_t ky, uint32_t *out);
 
 /* The depletion by the ledger and by the block's two probes. Accepted: out[2] the ledger's depletion, as open answers
  * it, [3] the measured one: (capacity - v) * Z / 10, rounded down, 0 where v is above capacity, and at most T, with the
  * open day's root depth Z in centimetres and its total water T. v is the content in ten-thousandths, rounded down from
  * the float's exact value, and of two contents the mean of both v, rounded down; -0.0 counts as 0. Waiting water plays
- * no part. It hands back no stores. Refusals 1 to 11, 18 and 19. */
-void balladsky_probe(const uint8_t *climate, size_t climate_length, const uint8_t *block, size_t block_length,
-    const uint8_t *area, size_t area_length, uint32_t shallow_kind, float shallow, uint32_t deep_kind, float deep,
-    uint32_t capacity, uint32_t *out);
+ * no part. It hands back no stores. Refusals 20, then 1 to 11, 18 and 19. */
+void balladsky_probe(uint32_t role, const uint8_t *climate, size_t climate_length, const uint8_t *block,
+    size_t block_length, const uint8_t *area, size_t area_length, uint32_t shallow_kind, float shallow,
+    uint32_t deep_kind, float deep, uint32_t capacity, uint32_t *out);
 
 /* Plans the waterings from the open day to the season's end. Accepted: depths[0] is the open day's net depth, depths[1]
- * the next day's, and so on; out[2] how many are above 0, [3] the net total, [4] the gross total. Refusals 1 to 11, 15
- * and 16. */
-void balladsky_plan(const uint8_t *climate, size_t climate_length, const uint8_t *block, size_t block_length,
-    const uint8_t *area, size_t area_length, uint32_t *depths, size_t depths_length, uint32_t *out);
+ * the next day's, and so on; out[2] how many are above 0, [3] the net total, [4] the gross total. Refusals 20, then 1
+ * to 11, 15 and 16. */
+void balladsky_plan(uint32_t role, const uint8_t *climate, size_t climate_length, const uint8_t *block,
+    size_t block_length, const uint8_t *area, size_t area_length, uint32_t *depths, size_t depths_length,
+    uint32_t *out);
 
 /* The decade table. Accepted: rows holds six numbers a row: month, decade, need, planned rain, net, gross; out[2] how
- * many rows. Refusals 1 to 7, and 15. */
-void balladsky_table(const uint8_t *climate, size_t climate_length, const uint8_t *block, size_t block_length,
-    uint32_t *rows, size_t rows_length, uint32_t *out);
+ * many rows. Refusals 20, then 1 to 7, and 15. */
+void balladsky_table(uint32_t role, const uint8_t *climate, size_t climate_length, const uint8_t *block,
+    size_t block_length, uint32_t *rows, size_t rows_length, uint32_t *out);
 
 /* Writes a climate sheet: fields are its 24 numbers, field 10 first. Accepted: the buffer begins with the sheet's
- * bytes; out[2] how many they are, which is climate_length for the other calls. Refusals 4, as the other calls give it,
- * and 15. */
-void balladsky_write_climate(const uint32_t *fields, uint8_t *climate, size_t climate_length, uint32_t *out);
+ * bytes; out[2] how many they are, which is climate_length for the other calls. Refusals 20, 4 as the other calls give
+ * it, and 15. */
+void balladsky_write_climate(uint32_t role, const uint32_t *fields, uint8_t *climate, size_t climate_length,
+    uint32_t *out);
 
 /* Writes a block sheet: fields are its sixteen numbers, field 1 first and 34 behind 9, and then the days of February,
  * 28 or 29; anything else there is refused 4 with 41. 28 is left out of the sheet, 29 is its seventeenth number.
- * Accepted: as for the climate sheet, out[2] being block_length. Refusals 4 to 7, as the other calls give them, and
+ * Accepted: as for the climate sheet, out[2] being block_length. Refusals 20, 4 to 7 as the other calls give them, and
  * 15. */
-void balladsky_write_block(const uint32_t *fields, uint8_t *block, size_t block_length, uint32_t *out);
+void balladsky_write_block(uint32_t role, const uint32_t *fields, uint8_t *block, size_t block_length, uint32_t *out);
 
 #ifdef __cplusplus
 }

@@ -1,5 +1,6 @@
-/* A season of four days on the small pair of sheets, with two power cuts. Prints the decade table, what the soil
- * probes say on day 3, the ledger and the lost yield. */
+/* A season of four days on the small pair of sheets, with two power cuts. Firmware opens as role 3, role 2 records,
+ * and role 1 looks at the panel and presses the wrong key. Prints the decade table, what the soil probes say on day 3,
+ * the ledger and the lost yield. */
 #include "balladsky.h"
 #include <stdio.h>
 #include <stdlib.h>
@@ -31,7 +32,7 @@ static void must(const char *what) {
 /* Six numbers a row. */
 static void print_table(void) {
     uint32_t rows[BALLADSKY_ROWS];
-    balladsky_table(climate, sizeof climate, block, sizeof block, rows, BALLADSKY_ROWS, out);
+    balladsky_table(BALLADSKY_LOOK, climate, sizeof climate, block, sizeof block, rows, BALLADSKY_ROWS, out);
     must("table");
     printf("table: %u row%s\n", out[2], out[2] == 1 ? "" : "s");
     for (uint32_t i = 0; i < 6 * out[2]; i++)
@@ -44,40 +45,52 @@ static void store(uint32_t done) {
         area[out[2] + i] = (uint8_t)out[4 + i];
 }
 
-/* What firmware does when it comes up: open, and do the stores that mend what a cut left. */
-static void come_up(void) {
-    balladsky_open(climate, sizeof climate, block, sizeof block, area, sizeof area, out);
+/* Opens as a role. Only role 3 is told places to mend. */
+static void open_as(uint32_t role) {
+    balladsky_open(role, climate, sizeof climate, block, sizeof block, area, sizeof area, out);
     if (out[0] == BALLADSKY_TORN) {
-        printf("torn at %u\n", out[1]);
-        printf("mended %u place%s:", out[20], out[20] == 1 ? "" : "s");
-        for (uint32_t i = 0; i < out[20]; i++) {
-            area[out[21 + i]] = 0xFF;
-            printf(" %u", out[21 + i]);
-        }
-        printf("\n");
+        printf("role %u opens: torn at %u, %u to mend\n", role, out[1], out[20]);
     } else {
         must("open");
+        printf("role %u opens: clean\n", role);
     }
 }
 
-typedef void entry_call(const uint8_t *, size_t, const uint8_t *, size_t, const uint8_t *, size_t, uint32_t,
+/* What firmware does when it comes up, whoever stands at the panel: open as role 3, and do the stores that mend what a
+ * cut left. */
+static void come_up(void) {
+    open_as(BALLADSKY_MEND);
+    for (uint32_t i = 0; i < out[20]; i++) {
+        area[out[21 + i]] = 0xFF;
+        printf("place %u mended\n", out[21 + i]);
+    }
+}
+
+/* The rain key, pressed by a role that may not record. */
+static void press_rain(uint32_t role, uint32_t amount) {
+    balladsky_rain(role, climate, sizeof climate, block, sizeof block, area, sizeof area, amount, out);
+    printf("role %u presses rain %u: refused %u %u\n", role, amount, out[0], out[1]);
+}
+
+typedef void entry_call(uint32_t, const uint8_t *, size_t, const uint8_t *, size_t, const uint8_t *, size_t, uint32_t,
     uint32_t *);
 
 /* Enters water; the power goes after `cut` stores, and it is entered again. */
 static void enter_with_cut(const char *name, entry_call *call, uint32_t amount, uint32_t cut) {
-    call(climate, sizeof climate, block, sizeof block, area, sizeof area, amount, out);
+    call(BALLADSKY_RECORD, climate, sizeof climate, block, sizeof block, area, sizeof area, amount, out);
     must(name);
     printf("%s %u: power cut after %u of %u stores\n", name, amount, cut, out[3]);
     store(cut);
+    open_as(BALLADSKY_LOOK);
     come_up();
-    call(climate, sizeof climate, block, sizeof block, area, sizeof area, amount, out);
+    call(BALLADSKY_RECORD, climate, sizeof climate, block, sizeof block, area, sizeof area, amount, out);
     must(name);
     printf("%s %u: %u stores from %u\n", name, amount, out[3], out[2]);
     store(out[3]);
 }
 
 static void close_day(unsigned day) {
-    balladsky_close(climate, sizeof climate, block, sizeof block, area, sizeof area, out);
+    balladsky_close(BALLADSKY_RECORD, climate, sizeof climate, block, sizeof block, area, sizeof area, out);
     must("close");
     store(out[3]);
     printf("day %u closed\n", day);
@@ -85,8 +98,8 @@ static void close_day(unsigned day) {
 
 /* The ledger's depletion beside the measured one, in a soil whose field capacity is 0.3 of its volume. */
 static void print_probes(const char *what, uint32_t shallow_kind, float shallow, uint32_t deep_kind, float deep) {
-    balladsky_probe(climate, sizeof climate, block, sizeof block, area, sizeof area, shallow_kind, shallow, deep_kind,
-        deep, 3000, out);
+    balladsky_probe(BALLADSKY_LOOK, climate, sizeof climate, block, sizeof block, area, sizeof area, shallow_kind,
+        shallow, deep_kind, deep, 3000, out);
     if (out[0] == BALLADSKY_ACCEPTED)
         printf("probes, %s: ledger %u, measured %u\n", what, out[2], out[3]);
     else
@@ -99,7 +112,7 @@ static void print_ledger(void) {
         "season percolation", "place", "season need",
     };
     static const char *const stages[] = {"initial", "development", "mid", "late"};
-    balladsky_open(climate, sizeof climate, block, sizeof block, area, sizeof area, out);
+    balladsky_open(BALLADSKY_LOOK, climate, sizeof climate, block, sizeof block, area, sizeof area, out);
     must("open");
     for (int i = 0; i < 10; i++)
         printf("%s %u\n", names[i], out[2 + i]);
@@ -109,7 +122,7 @@ static void print_ledger(void) {
 
 /* The season's and the four stages', in ten-thousandths. */
 static void print_loss(uint32_t ky) {
-    balladsky_loss(climate, sizeof climate, block, sizeof block, area, sizeof area, ky, out);
+    balladsky_loss(BALLADSKY_LOOK, climate, sizeof climate, block, sizeof block, area, sizeof area, ky, out);
     must("loss");
     printf("loss with Ky %u: season %u, stages %u %u %u %u\n", ky, out[2], out[3], out[4], out[5], out[6]);
 }
@@ -117,7 +130,9 @@ static void print_loss(uint32_t ky) {
 int main(void) {
     uint32_t depths[BALLADSKY_DEPTHS];
     memset(area, 0xFF, sizeof area);
+    come_up();
     print_table();
+    press_rain(BALLADSKY_LOOK, 300);
     enter_with_cut("rain", balladsky_rain, 300, 2);
     close_day(1);
     close_day(2);
@@ -125,7 +140,8 @@ int main(void) {
     print_probes("shallow low", BALLADSKY_PROBE_LOW, 2.9f, BALLADSKY_PROBE_WATER, 0.28125f);
     print_probes("both silent", BALLADSKY_PROBE_SILENT, 0, BALLADSKY_PROBE_SILENT, 0);
     print_probes("shallow NaN", BALLADSKY_PROBE_WATER, no_number.value, BALLADSKY_PROBE_WATER, 0.28125f);
-    balladsky_plan(climate, sizeof climate, block, sizeof block, area, sizeof area, depths, BALLADSKY_DEPTHS, out);
+    balladsky_plan(BALLADSKY_LOOK, climate, sizeof climate, block, sizeof block, area, sizeof area, depths,
+        BALLADSKY_DEPTHS, out);
     must("plan");
     printf("plan: %u watering%s, net %u, gross %u\n", out[2], out[2] == 1 ? "" : "s", out[3], out[4]);
     enter_with_cut("irrigation", balladsky_irrigation, depths[0], 1);

@@ -1,7 +1,7 @@
 /* What a tablet does for two growers on one controller: it makes one climate sheet and a block sheet for each, prints
  * their bytes, and reads each block with that climate by its decade table. Then January's ETo is set right, in the one
- * climate sheet, for both. After that three calls that are refused: a field out of its range in either sheet, and a
- * buffer that is too short. */
+ * climate sheet, for both. After that four calls that are refused: a field out of its range in either sheet, a buffer
+ * that is too short, and a number that is no role. All others are by role 1, which is enough to make a sheet. */
 #include "balladsky.h"
 #include <stdio.h>
 #include <stdlib.h>
@@ -36,13 +36,13 @@ static void print_bytes(const uint8_t *sheet, size_t length) {
 }
 
 static void make_climate(void) {
-    balladsky_write_climate(climate_fields, climate, sizeof climate, out);
+    balladsky_write_climate(BALLADSKY_LOOK, climate_fields, climate, sizeof climate, out);
     must("write climate");
     climate_length = out[2];
 }
 
 static void make_block(int grower) {
-    balladsky_write_block(block_fields[grower], blocks[grower], sizeof blocks[grower], out);
+    balladsky_write_block(BALLADSKY_LOOK, block_fields[grower], blocks[grower], sizeof blocks[grower], out);
     must("write block");
     block_lengths[grower] = out[2];
 }
@@ -51,7 +51,8 @@ static void make_block(int grower) {
 static void print_tables(void) {
     for (int grower = 0; grower < 2; grower++) {
         uint32_t rows[BALLADSKY_ROWS];
-        balladsky_table(climate, climate_length, blocks[grower], block_lengths[grower], rows, BALLADSKY_ROWS, out);
+        balladsky_table(BALLADSKY_LOOK, climate, climate_length, blocks[grower], block_lengths[grower], rows,
+            BALLADSKY_ROWS, out);
         must("table");
         printf("table %d: %u row%s\n", grower + 1, out[2], out[2] == 1 ? "" : "s");
         for (uint32_t i = 0; i < 6 * out[2]; i++)
@@ -74,12 +75,14 @@ int main(void) {
     printf("January's ETo set right\n");
     print_tables();
     climate_fields[0] = 1501;
-    balladsky_write_climate(climate_fields, climate, sizeof climate, out);
+    balladsky_write_climate(BALLADSKY_LOOK, climate_fields, climate, sizeof climate, out);
     printf("ETo 1501: refused %u %u\n", out[0], out[1]);
-    balladsky_write_block(block_fields[0], blocks[0], block_lengths[0] - 1, out);
+    balladsky_write_block(BALLADSKY_LOOK, block_fields[0], blocks[0], block_lengths[0] - 1, out);
     printf("%u bytes: refused %u %u\n", (unsigned)block_lengths[0] - 1, out[0], out[1]);
     block_fields[0][1] = 32;
-    balladsky_write_block(block_fields[0], blocks[0], sizeof blocks[0], out);
+    balladsky_write_block(BALLADSKY_LOOK, block_fields[0], blocks[0], sizeof blocks[0], out);
     printf("day 32: refused %u %u\n", out[0], out[1]);
+    balladsky_write_block(4, block_fields[0], blocks[0], sizeof blocks[0], out);
+    printf("role 4: refused %u %u\n", out[0], out[1]);
     return 0;
 }

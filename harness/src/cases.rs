@@ -1,5 +1,6 @@
-//! Pairs of sheets and soil probes by a separate reading of document 02, T-08 and T-07: what the library and the plain
-//! implementation are held against.
+//! Roles, pairs of sheets and soil probes by a separate reading of document 02, T-09, T-08 and T-07: what the library
+//! and the plain implementation are held against.
+use crate::plain::book::Call;
 use crate::plain::Reading;
 use crate::random::{self, Probes, Sheets};
 
@@ -141,4 +142,77 @@ pub const PROBES: [Case; 41] = [
     case(&[], LONG, NO_NUMBER, SILENT, 3_000, &[8, 0]),
     case(&[(39, 2_001)], LONG, NO_NUMBER, SILENT, 0, &[7, 0]),
     case(&[(2, 32)], LONG, SILENT, SILENT, 3_000, &[4, 2]),
+];
+
+/// A call by a role on the small block and a climate, and the first numbers of `out`.
+pub struct ByRole {
+    pub role: u32, pub call: Call, pub climate: &'static [u8], pub area: &'static [u8], pub want: &'static [u32],
+}
+
+const fn by(role: u32, call: Call, area: &'static [u8], want: &'static [u32]) -> ByRole {
+    ByRole { role, call, climate: &CLIMATE, area, want }
+}
+
+const fn without_climate(role: u32, call: Call, want: &'static [u32]) -> ByRole {
+    ByRole { role, call, climate: &[], area: BLANK, want }
+}
+
+/// No entry, torn and clean: the ledger, then how many places to set to FF, and three places.
+const MENDING: &[u32] = &[10, 0, 1, 0, 0, 0, 0, 0, 0, 0, 0, 0, 0, 0, 0, 0, 0, 0, 0, 0, 2, 1, 0, 0];
+const LOOKING: &[u32] = &[10, 0, 1, 0, 0, 0, 0, 0, 0, 0, 0, 0, 0, 0, 0, 0, 0, 0, 0, 0, 0, 0, 0, 0];
+const CLEAN: &[u32] = &[0, 0, 1, 0, 0, 0, 0, 0, 0, 0, 0, 0, 0, 0, 0, 0, 0, 0, 0, 0, 0, 0, 0, 0];
+const NO_ROLE: &[u32] = &[20, 0];
+const NOT_BY_1: &[u32] = &[21, 0];
+
+pub const BY_ROLE: [ByRole; 48] = [
+    by(3, Call::Open, TORN, MENDING),
+    by(1, Call::Open, TORN, LOOKING),
+    by(2, Call::Open, TORN, LOOKING),
+    by(0, Call::Open, TORN, NO_ROLE),
+    by(4, Call::Open, TORN, NO_ROLE),
+    by(u32::MAX, Call::Open, TORN, NO_ROLE),
+    by(1, Call::Open, BLANK, CLEAN),
+    by(2, Call::Open, BLANK, CLEAN),
+    by(3, Call::Open, BLANK, CLEAN),
+    by(4, Call::Open, BLANK, NO_ROLE),
+    by(1, Call::Open, DAMAGED, &[9, 0]),
+    by(2, Call::Open, LONG, &[8, 0]),
+    by(0, Call::Open, LONG, NO_ROLE),
+    by(1, Call::Rain(5), BLANK, NOT_BY_1),
+    by(2, Call::Rain(5), BLANK, &[0, 0, 0, 2, 1, 5, 0, 0]),
+    by(3, Call::Rain(5), BLANK, &[0, 0, 0, 2, 1, 5, 0, 0]),
+    by(4, Call::Rain(5), BLANK, NO_ROLE),
+    by(0, Call::Rain(5), BLANK, NO_ROLE),
+    by(u32::MAX, Call::Rain(5), BLANK, NO_ROLE),
+    by(1, Call::Irrigation(5), BLANK, NOT_BY_1),
+    by(2, Call::Irrigation(5), BLANK, &[0, 0, 0, 2, 2, 5, 0, 0]),
+    by(3, Call::Irrigation(5), BLANK, &[0, 0, 0, 2, 2, 5, 0, 0]),
+    by(4, Call::Irrigation(5), BLANK, NO_ROLE),
+    by(1, Call::Close, BLANK, NOT_BY_1),
+    by(2, Call::Close, BLANK, &[0, 0, 0, 2, 3, 1, 0, 0]),
+    by(3, Call::Close, BLANK, &[0, 0, 0, 2, 3, 1, 0, 0]),
+    by(4, Call::Close, BLANK, NO_ROLE),
+    // A torn journal: only role 3's opening sets it going again.
+    by(1, Call::Rain(5), TORN, NOT_BY_1),
+    by(2, Call::Rain(5), TORN, &[10, 0]),
+    by(3, Call::Rain(5), TORN, &[10, 0]),
+    by(2, Call::Close, TORN_LATER, &[10, 2]),
+    by(0, Call::Close, TORN_LATER, NO_ROLE),
+    // The role is judged before sheets, journal and amount.
+    by(1, Call::Rain(0), DAMAGED, NOT_BY_1),
+    by(2, Call::Rain(0), DAMAGED, &[9, 0]),
+    by(0, Call::Rain(0), DAMAGED, NO_ROLE),
+    by(1, Call::Irrigation(0), BLANK, NOT_BY_1),
+    by(2, Call::Irrigation(0), BLANK, &[12, 0]),
+    by(1, Call::Close, CLOSED, NOT_BY_1),
+    by(2, Call::Close, CLOSED, &[11, 0]),
+    by(1, Call::Close, LONG, NOT_BY_1),
+    by(1, Call::Close, &[], NOT_BY_1),
+    by(2, Call::Close, &[], &[14, 0]),
+    without_climate(0, Call::Open, NO_ROLE),
+    without_climate(1, Call::Open, &[1, 0]),
+    without_climate(0, Call::Rain(5), NO_ROLE),
+    without_climate(1, Call::Rain(5), NOT_BY_1),
+    without_climate(2, Call::Rain(5), &[1, 0]),
+    without_climate(u32::MAX, Call::Close, NO_ROLE),
 ];

@@ -1,5 +1,6 @@
-//! Document 01 in plain Rust, the numbers of its answers, cases by a separate reading and random sheets and journals to
-//! try it and the library on, and memory that shows what a call touches.
+//! Document 01 in plain Rust, the numbers of its answers, the calls and their roles as the library has them, cases by a
+//! separate reading and random sheets and journals to try both on, and memory that shows what a call touches.
+pub mod asks;
 pub mod cases;
 pub mod memory;
 pub mod numbers;

@@ -1,15 +1,18 @@
 //! Compares the static library with the plain implementation on random cases: pairs of sheets valid, cut, exchanged,
 //! damaged and written, journals clean, torn and damaged, areas of 0 to 8,193 bytes, histories with a cut after every
 //! store, water contents of any bits. The whole of `out` and of each lent buffer is compared, noise beyond the answer
-//! included; each accepted pair is read as one sheet too, histories are compared with the book, and pairs, openings,
-//! lost yield, soil probes and seventeenth numbers with document 02's cases. In every case each buffer that the library
-//! is given ends before a guard page or begins behind one, so that a read or write past it is a fault, and sheets, area
-//! and fields must be as they were. Then lengths from 2^16 to 2^32 and a little more, which are other lengths to
-//! whoever keeps fewer bits. Each refusal of each call must have come up, 1 to 4 for either sheet. Prints its seed;
-//! stops with status 1 at the first difference or fault.
+//! included. What role 3 asks is asked again, but for most water contents, by a role drawn from 0 to 4 and
+//! 4,294,967,295, which must be answered as document 02 makes it of role 3's answer. Each accepted pair is read as one
+//! sheet too, histories with roles are compared with the book, and roles, pairs, openings, lost yield, soil probes and
+//! seventeenth numbers with document 02's cases. In every case each buffer that the library is given ends before a
+//! guard page or begins behind one, so that a read or write past it is a fault, and sheets, area and fields must be as
+//! they were. Then lengths from 2^16 to 2^32 and a little more, which are other lengths to whoever keeps fewer bits.
+//! Each refusal of each call must have come up, 1 to 4 for either sheet. Prints its seed; stops with status 1 at the
+//! first difference or fault.
 //!
 //!     cargo run --release --manifest-path harness/Cargo.toml [SEED]
 use balladsky::{self as library, Out, OUT};
+use harness::asks::{by_plain, by_rule, noisy, written_by_plain, Answer, Ask, Asked, Made, Pair, Right};
 use harness::memory::{self, Guarded, Side};
 use harness::plain::book::{self, Book, Call};
 use harness::plain::{self, one_sheet, Opening, Reading};
@@ -17,92 +20,38 @@ use harness::random::{self, Dice, Fields, Probes, Sheets, Writer};
 use harness::{cases, numbers};
 use std::ops::RangeInclusive;
 
-/// A call, with what it is given beside sheets and area. Loss: Ky. Plan and table: how many numbers are lent.
-#[derive(Clone, Copy, Debug)]
-enum Ask { Open, Rain(u32), Irrigation(u32), Close, Loss(u32), Probe(Probes), Plan(usize), Table(usize) }
-
-impl Ask {
-    /// Which of the calls on a pair of sheets it is, from 0.
-    fn kind(self) -> usize {
-        match self {
-            Ask::Open => 0,
-            Ask::Rain(_) => 1,
-            Ask::Irrigation(_) => 2,
-            Ask::Close => 3,
-            Ask::Loss(_) => 4,
-            Ask::Probe(_) => 5,
-            Ask::Plan(_) => 6,
-            Ask::Table(_) => 7,
-        }
-    }
-
-    /// How many numbers are lent.
-    fn lent(self) -> usize {
-        match self {
-            Ask::Plan(count) | Ask::Table(count) => count,
-            _ => 0,
-        }
-    }
-}
-
-/// `out` and the lent buffer.
-type Answer = (Out, Vec<u32>);
-
-/// The climate sheet and the block sheet.
-type Pair<'a> = (&'a [u8], &'a [u8]);
-
-fn by_library((climate, block): Pair, area: &[u8], ask: Ask, out: &mut Out, lent: &mut [u32]) {
-    let message = || format!("the library's {ask:?} touched what it was not given\n{}", given((climate, block), area));
+fn by_library((climate, block): Pair, area: &[u8], (role, ask): Asked, out: &mut Out, lent: &mut [u32]) {
+    let call = || format!("the library's {ask:?} by role {role}");
+    let message = || format!("{} touched what it was not given\n{}", call(), given((climate, block), area));
     memory::watched(&message, || match ask {
-        Ask::Open => library::open(climate, block, area, out),
-        Ask::Rain(v) => library::rain(climate, block, area, v, out),
-        Ask::Irrigation(v) => library::irrigation(climate, block, area, v, out),
-        Ask::Close => library::close(climate, block, area, out),
-        Ask::Loss(ky) => library::loss(climate, block, area, ky, out),
-        Ask::Probe(p) => library::probe_of_any_kind(climate, block, area, p.shallow, p.deep, p.capacity, out),
-        Ask::Plan(_) => library::plan(climate, block, area, lent, out),
-        Ask::Table(_) => library::table(climate, block, lent, out),
+        Ask::Open => library::open(role, climate, block, area, out),
+        Ask::Rain(v) => library::rain(role, climate, block, area, v, out),
+        Ask::Irrigation(v) => library::irrigation(role, climate, block, area, v, out),
+        Ask::Close => library::close(role, climate, block, area, out),
+        Ask::Loss(ky) => library::loss(role, climate, block, area, ky, out),
+        Ask::Probe(p) => library::probe_of_any_kind(role, climate, block, area, p.shallow, p.deep, p.capacity, out),
+        Ask::Plan(_) => library::plan(role, climate, block, area, lent, out),
+        Ask::Table(_) => library::table(role, climate, block, lent, out),
     })
 }
 
-fn by_plain((climate, block): Pair, area: &[u8], ask: Ask, out: &mut Out, lent: &mut [u32]) {
-    let numbers = match ask {
-        Ask::Open => numbers::opened(plain::open(climate, block, area)),
-        Ask::Rain(v) => numbers::recorded(plain::rain(climate, block, area, v)),
-        Ask::Irrigation(v) => numbers::recorded(plain::irrigation(climate, block, area, v)),
-        Ask::Close => numbers::recorded(plain::close(climate, block, area)),
-        Ask::Loss(ky) => numbers::lost(plain::loss(climate, block, area, ky)),
-        Ask::Probe(p) => numbers::probed(plain::probe(climate, block, area, p.shallow, p.deep, p.capacity)),
-        Ask::Plan(_) => numbers::planned(plain::plan(climate, block, area, lent)),
-        Ask::Table(_) => numbers::tabled(plain::table(climate, block, lent)),
-    };
-    out[..numbers.len()].copy_from_slice(&numbers);
-}
-
-fn written_by_library(writer: Writer, fields: &[u32], sheet: &mut [u8], out: &mut Out) {
+fn written_by_library(writer: Writer, role: u32, fields: &[u32], sheet: &mut [u8], out: &mut Out) {
     let room = sheet.len();
-    let message = || format!("the library's {writer:?} writer touched what it was not given\n{fields:?}, {room} bytes");
+    let call = || format!("the library's {writer:?} writer by role {role}");
+    let message = || format!("{} touched what it was not given\n{fields:?}, {room} bytes", call());
     memory::watched(&message, || match writer {
-        Writer::Climate => library::write_climate(fields.try_into().unwrap(), sheet, out),
-        Writer::Block => library::write_block(fields.try_into().unwrap(), sheet, out),
+        Writer::Climate => library::write_climate(role, fields.try_into().unwrap(), sheet, out),
+        Writer::Block => library::write_block(role, fields.try_into().unwrap(), sheet, out),
     })
-}
-
-fn written_by_plain(writer: Writer, fields: &[u32], sheet: &mut [u8], out: &mut Out) {
-    let numbers = numbers::written(writer.write(fields, sheet));
-    out[..numbers.len()].copy_from_slice(&numbers);
 }
 
 /// The calls by kind, and the answers of each: 0, its refusals, and 10 from open. All must come up, and no others.
 const CALLS: [(&str, &[RangeInclusive<usize>]); 10] = [
-    ("open", &[0..=10]), ("rain", &[0..=14]), ("irrigation", &[0..=14]), ("close", &[0..=11, 14..=14]),
-    ("loss", &[0..=10, 17..=17]), ("probe", &[0..=11, 18..=19]), ("plan", &[0..=11, 15..=16]),
-    ("table", &[0..=7, 15..=15]), ("write climate", &[0..=0, 4..=4, 15..=15]),
-    ("write block", &[0..=0, 4..=7, 15..=15]),
+    ("open", &[0..=10, 20..=20]), ("rain", &[0..=14, 20..=21]), ("irrigation", &[0..=14, 20..=21]),
+    ("close", &[0..=11, 14..=14, 20..=21]), ("loss", &[0..=10, 17..=17, 20..=20]), ("probe", &[0..=11, 18..=20]),
+    ("plan", &[0..=11, 15..=16, 20..=20]), ("table", &[0..=7, 15..=15, 20..=20]),
+    ("write climate", &[0..=0, 4..=4, 15..=15, 20..=20]), ("write block", &[0..=0, 4..=7, 15..=15, 20..=20]),
 ];
-
-/// `out` and the bytes lent to a writer.
-type Made = (Out, Vec<u8>);
 
 /// At most 8,193 bytes are shown.
 fn hex(bytes: &[u8]) -> String {
@@ -114,12 +63,18 @@ fn given((climate, block): Pair, area: &[u8]) -> String {
     [shown("climate", climate), shown("block", block), shown("area", area)].join("\n")
 }
 
-fn differ(what: &str, pair: Pair, area: &[u8], ask: Ask, left: &Answer, right: &Answer) -> ! {
-    println!("DIFFERENCE: {what}, {ask:?}\n{}", given(pair, area));
+fn differ(what: &str, pair: Pair, area: &[u8], (role, ask): Asked, left: &Answer, right: &Answer) -> ! {
+    println!("DIFFERENCE: {what}, {ask:?} by role {role}\n{}", given(pair, area));
     println!("library {:?}\nother   {:?}", left.0, right.0);
     if let Some(i) = (0..left.1.len()).find(|&i| left.1[i] != right.1[i]) {
         println!("lent buffer, number {i}: library {}, other {}", left.1[i], right.1[i]);
     }
+    std::process::exit(1)
+}
+
+fn differ_written(what: &str, writer: Writer, role: u32, fields: &[u32], left: &Made, right: &Made) -> ! {
+    println!("DIFFERENCE: {what}, {writer:?} writer by role {role}, {} bytes, fields {fields:?}", left.1.len());
+    println!("library {:?} {}\nother   {:?} {}", left.0, hex(&left.1), right.0, hex(&right.1));
     std::process::exit(1)
 }
 
@@ -141,51 +96,71 @@ impl Guards {
     }
 
     /// The library's answer over `before`.
-    fn ask(&mut self, (climate, block): Pair, area: &[u8], ask: Ask, before: &Answer, sides: u32) -> Answer {
+    fn ask(&mut self, (climate, block): Pair, area: &[u8], asked: Asked, before: &Answer, sides: u32) -> Answer {
         self.count(sides, 5);
         let side = |bit: u32| if sides >> bit & 1 == 0 { Side::Ends } else { Side::Begins };
         let (c, b) = (self.climate.bytes(climate, side(0)), self.block.bytes(block, side(1)));
         let (a, out) = (self.area.bytes(area, side(2)), self.out.numbers(&before.0, side(3)));
         let lent = self.lent.numbers(&before.1, side(4));
         let out: &mut Out = out.try_into().unwrap();
-        by_library((c, b), a, ask, out, lent);
+        by_library((c, b), a, asked, out, lent);
         let answer = (*out, lent.to_vec());
         if (&*c, &*b, &*a) != (climate, block, area) {
-            differ("a sheet or the area was written", (climate, block), area, ask, &answer, before);
+            differ("a sheet or the area was written", (climate, block), area, asked, &answer, before);
         }
         answer
     }
 
     /// A writer's answer over `before`, likewise.
-    fn write(&mut self, writer: Writer, fields: &[u32], before: &Made, sides: u32) -> Made {
+    fn write(&mut self, writer: Writer, role: u32, fields: &[u32], before: &Made, sides: u32) -> Made {
         self.count(sides, 3);
         let side = |bit: u32| if sides >> bit & 1 == 0 { Side::Ends } else { Side::Begins };
         let (f, s) = (self.lent.numbers(fields, side(0)), self.block.bytes(&before.1, side(1)));
         let out: &mut Out = self.out.numbers(&before.0, side(2)).try_into().unwrap();
-        written_by_library(writer, f, s, out);
+        written_by_library(writer, role, f, s, out);
         assert_eq!(f, fields, "the fields were written");
         (*out, s.to_vec())
     }
 }
 
-/// What `out` holds before a call.
-fn noisy(noise: u32) -> Out {
-    std::array::from_fn(|i| noise.wrapping_mul(i as u32 + 1))
-}
-
 /// Answers by call and number, how many of 1 to 4 were the climate sheet's, and how often an accepted pair was read as
 /// one sheet too.
-struct Tally { cases: u64, answers: [[u64; 20]; 10], by_climate: [[u64; 5]; 8], as_one: u64, guards: Guards }
+struct Tally { cases: u64, answers: [[u64; 22]; 10], by_climate: [[u64; 5]; 8], as_one: u64, guards: Guards }
 
 impl Tally {
-    /// One case: both are asked the same, with the same noise in what is lent.
+    /// Two cases: role 3, whose answer comes back, then any role.
     fn same(&mut self, g: &mut Dice, sheets: &Sheets, area: &[u8], ask: Ask) -> Out {
-        let (noise, pair) = (g.next() as u32, sheets.pair());
-        let mut right: Answer = (noisy(noise), (0..ask.lent() as u32).map(|i| noise ^ i).collect());
-        let left = self.guards.ask(pair, area, ask, &right, noise >> 27);
-        by_plain(pair, area, ask, &mut right.0, &mut right.1);
+        let role = g.pick(&random::ROLES);
+        self.roles(g, sheets, area, (role, ask))
+    }
+
+    /// Role 3, whose answer comes back, and then that role, over the same noise and with each buffer's other end at a
+    /// guard page.
+    fn roles(&mut self, g: &mut Dice, sheets: &Sheets, area: &[u8], (role, ask): Asked) -> Out {
+        let noise = g.next() as u32;
+        let before = ask.before(noise);
+        let third = self.case(sheets, area, (3, ask), &before, noise >> 27);
+        let other = self.case(sheets, area, (role, ask), &before, !noise >> 27);
+        let want = by_rule(role, ask.right(), &third, &before);
+        if other != want {
+            differ("document 02's rule of roles", sheets.pair(), area, (role, ask), &other, &want);
+        }
+        third.0
+    }
+
+    /// One case by one role, over noise.
+    fn asked(&mut self, g: &mut Dice, sheets: &Sheets, area: &[u8], asked: Asked) -> Out {
+        let noise = g.next() as u32;
+        self.case(sheets, area, asked, &asked.1.before(noise), noise >> 27).0
+    }
+
+    /// One case: both are asked the same, with the same noise in what is lent.
+    fn case(&mut self, sheets: &Sheets, area: &[u8], asked: Asked, before: &Answer, sides: u32) -> Answer {
+        let (pair, ask, mut right) = (sheets.pair(), asked.1, before.clone());
+        let left = self.guards.ask(pair, area, asked, before, sides);
+        by_plain(pair, area, asked, &mut right.0, &mut right.1);
         if left != right {
-            differ("plain implementation", pair, area, ask, &left, &right);
+            differ("plain implementation", pair, area, asked, &left, &right);
         }
         let number = left.0[0];
         match number {
@@ -193,12 +168,12 @@ impl Tally {
                 let at_fault = plain::read_sheets(&sheets.climate, &cases::BLOCK).is_err();
                 self.by_climate[ask.kind()][number as usize] += at_fault as u64;
             }
-            5..=7 => {}
+            5..=7 | 20 | 21 => {}
             _ => self.as_one_sheet(pair),
         }
         self.cases += 1;
         self.answers[ask.kind()][number as usize] += 1;
-        left.0
+        left
     }
 
     /// An accepted pair is the season that its numbers were in one sheet, and the plain answers are made of that alone.
@@ -212,16 +187,30 @@ impl Tally {
         self.as_one += 1;
     }
 
-    /// A writer, into so many bytes of noise.
+    /// A writer, into so many bytes of noise: two cases, as with `same`.
     fn written(&mut self, g: &mut Dice, writer: Writer, f: &Fields, room: usize) -> Made {
+        let role = g.pick(&random::ROLES);
+        self.written_by(g, writer, role, f, room)
+    }
+
+    fn written_by(&mut self, g: &mut Dice, writer: Writer, role: u32, f: &Fields, room: usize) -> Made {
         let (noise, fields) = (g.next() as u32, writer.fields(f));
-        let mut right: Made = (noisy(noise), (0..room).map(|i| noise as u8 ^ i as u8).collect());
-        let left = self.guards.write(writer, &fields, &right, noise >> 27);
-        written_by_plain(writer, &fields, &mut right.1, &mut right.0);
+        let before: Made = (noisy(noise), (0..room).map(|i| noise as u8 ^ i as u8).collect());
+        let third = self.write(writer, 3, &fields, &before, noise >> 27);
+        let other = self.write(writer, role, &fields, &before, !noise >> 27);
+        let want = by_rule(role, Right::Look, &third, &before);
+        if other != want {
+            differ_written("document 02's rule of roles", writer, role, &fields, &other, &want);
+        }
+        third
+    }
+
+    /// One case of a writer.
+    fn write(&mut self, writer: Writer, role: u32, fields: &[u32], before: &Made, sides: u32) -> Made {
+        let (left, mut right) = (self.guards.write(writer, role, fields, before, sides), before.clone());
+        written_by_plain(writer, role, fields, &mut right.1, &mut right.0);
         if left != right {
-            println!("DIFFERENCE: {writer:?} writer, {room} bytes, fields {fields:?}");
-            println!("library {:?} {}\nplain   {:?} {}", left.0, hex(&left.1), right.0, hex(&right.1));
-            std::process::exit(1)
+            differ_written("plain implementation", writer, role, fields, &left, &right);
         }
         self.cases += 1;
         self.answers[8 + writer as usize][left.0[0] as usize] += 1;
@@ -427,9 +416,9 @@ fn februaries(t: &mut Tally, g: &mut Dice) {
         }
         for answer in [by_library, by_plain] {
             let (mut out, mut lent) = ([7; OUT], [7; 13]);
-            answer(sheets.pair(), &[], Ask::Table(13), &mut out, &mut lent);
+            answer(sheets.pair(), &[], (1, Ask::Table(13)), &mut out, &mut lent);
             assert_eq!((&out[..4], &lent[..12], lent[12]), (&[0, 0, 2, 7][..], &rows[..], 7), "rows, February {february}");
-            answer(sheets.pair(), &blank, Ask::Plan(5), &mut out, &mut lent[8..]);
+            answer(sheets.pair(), &blank, (1, Ask::Plan(5)), &mut out, &mut lent[8..]);
             assert_eq!((&out[2..5], &lent[8..12], lent[12]), (&totals[..], &depths[..], 7), "plan, February {february}");
         }
         let mut area = Vec::new();
@@ -520,6 +509,35 @@ fn openings(t: &mut Tally, g: &mut Dice) {
         assert_eq!(out[..first.len()], *first, "{bytes:02x?} in {length}");
         if let Some(places) = places {
             assert_eq!((&out[11..20], &out[20..]), (&[0; 9][..], &places[..]), "{bytes:02x?} in {length}");
+        }
+    }
+}
+
+/// Roles by document 02, T-09; then every call by every role, also by those that are one of the three to whoever keeps
+/// 8, 16 or 31 bits, on pairs and areas of every kind, and the writers on fields of every kind, into enough bytes and
+/// too few.
+fn roles(t: &mut Tally, g: &mut Dice) {
+    for case in cases::BY_ROLE {
+        let (sheets, asked) = (Sheets::new(case.climate, &cases::BLOCK), (case.role, case.call.into()));
+        let out = t.asked(g, &sheets, case.area, asked);
+        assert_eq!(out[..case.want.len()], *case.want, "{asked:?} on {:02x?} of {sheets:02x?}", case.area);
+    }
+    let near = [257, 258, 259, 65_537, 65_538, 65_539, 0x8000_0001, 0x8000_0002, 0x8000_0003];
+    let every: Vec<u32> = random::ROLES.into_iter().chain(near).collect();
+    let silent = Probes { shallow: (0, 0.0), deep: (0, 0.0), capacity: 0 };
+    let refused = [Ask::Rain(0), Ask::Irrigation(120_001), Ask::Loss(0), Ask::Probe(silent), Ask::Plan(0)];
+    let asks = || ON_JOURNAL.into_iter().chain(refused).chain([Ask::Table(12), Ask::Table(11)]);
+    let (pairs, areas) = (every_pair(), every_area());
+    for (sheets, area) in pairs.iter().flat_map(|s| areas.iter().map(move |a| (s, a))) {
+        for (ask, &role) in asks().flat_map(|ask| every.iter().map(move |role| (ask, role))) {
+            t.roles(g, sheets, area, (role, ask));
+        }
+    }
+    for (writer, &role) in Writer::BOTH.into_iter().flat_map(|w| every.iter().map(move |role| (w, role))) {
+        for changes in [&[][..], &[(10, 1_501), (34, 0)], &[(41, 30)], &[(35, 21)]] {
+            for room in [0, 15, 16, 24, 25, 60] {
+                t.written_by(g, writer, role, &random::with(random::small(127), changes), room);
+            }
         }
     }
 }
@@ -651,7 +669,8 @@ fn showing(value: f32) -> [Probes; 4] {
 }
 
 /// Contents by their bits: both sides of every ten-thousandth and the edges, with either sign, where the library must
-/// show each v from 0 to 10,000; then ten million, one in four of any bits, the others from 0.0001 to a little above 1.
+/// show each v from 0 to 10,000; then ten million, one in four of any bits, the others from 0.0001 to a little above 1,
+/// each by one of the three roles.
 fn contents(t: &mut Tally, g: &mut Dice) {
     let sheets = random::sheets(&random::with(random::small(127), &[(34, 400), (35, 10), (36, 10)]));
     let mut shown = [false; 10_001];
@@ -673,8 +692,8 @@ fn contents(t: &mut Tally, g: &mut Dice) {
     let (least, most) = (0.0001f32.to_bits(), 1f32.to_bits() + 9);
     for _ in 0..10_000_000 {
         let bits = if g.one_in(4) { g.next() as u32 } else { g.of(least, most) };
-        let probes = g.pick(&showing(f32::from_bits(bits)));
-        t.same(g, &sheets, &[0xff; 8], Ask::Probe(probes));
+        let (role, probes) = (g.of(1, 3), g.pick(&showing(f32::from_bits(bits))));
+        t.asked(g, &sheets, &[0xff; 8], (role, Ask::Probe(probes)));
     }
 }
 
@@ -694,15 +713,6 @@ fn plans(t: &mut Tally, g: &mut Dice) {
     }
 }
 
-fn asking(call: Call) -> Ask {
-    match call {
-        Call::Rain(v) => Ask::Rain(v),
-        Call::Irrigation(v) => Ask::Irrigation(v),
-        Call::Close => Ask::Close,
-        Call::Open => Ask::Open,
-    }
-}
-
 /// The stores that an answer hands back, in order.
 fn stores(call: Call, out: &Out) -> Vec<(usize, u8)> {
     match call {
@@ -715,31 +725,42 @@ fn stores(call: Call, out: &Out) -> Vec<(usize, u8)> {
 }
 
 /// What the library answered must begin as the book's answer does.
-fn as_the_book(sheets: &Sheets, area: &[u8], ask: Ask, out: Out, want: &[u32]) {
+fn as_the_book(sheets: &Sheets, area: &[u8], asked: Asked, out: Out, want: &[u32]) {
     if out[..want.len()] != *want {
-        not_the_book(sheets, area, ask, out, format!("{want:?}"));
+        not_the_book(sheets, area, asked, out, format!("{want:?}"));
     }
 }
 
-fn not_the_book(sheets: &Sheets, area: &[u8], ask: Ask, out: Out, want: String) -> ! {
+fn not_the_book(sheets: &Sheets, area: &[u8], asked: Asked, out: Out, want: String) -> ! {
     println!("the book answers {want}");
-    differ("the book", sheets.pair(), area, ask, &(out, Vec::new()), &([0; OUT], Vec::new()))
+    differ("the book", sheets.pair(), area, asked, &(out, Vec::new()), &([0; OUT], Vec::new()))
 }
 
-/// The loss and the depletion by the probes, which must be those of the book's ledger.
-fn loss_and_probe(t: &mut Tally, g: &mut Dice, (sheets, area): (&Sheets, &[u8]), book: &Book, ky: u32) {
-    let lost = t.same(g, sheets, area, Ask::Loss(ky));
-    as_the_book(sheets, area, Ask::Loss(ky), lost, &numbers::lost(book.loss(ky)));
-    let probes = random::probes(g);
-    let probed = t.same(g, sheets, area, Ask::Probe(probes));
-    let want = numbers::probed(book.probe(probes.shallow, probes.deep, probes.capacity));
-    as_the_book(sheets, area, Ask::Probe(probes), probed, &want);
+/// Opening, loss and the depletion by the probes, which must be those of the book: by role 3 and by any.
+fn looks(t: &mut Tally, g: &mut Dice, (sheets, area): (&Sheets, &[u8]), book: &Book, ky: u32) {
+    for role in [3, g.pick(&random::ROLES)] {
+        let p = random::probes(g);
+        let asks = [
+            (Ask::Open, numbers::opened(book.open(role))), (Ask::Loss(ky), numbers::lost(book.loss(role, ky))),
+            (Ask::Probe(p), numbers::probed(book.probe(role, p.shallow, p.deep, p.capacity))),
+        ];
+        for (ask, want) in asks {
+            let out = t.asked(g, sheets, area, (role, ask));
+            as_the_book(sheets, area, (role, ask), out, &want);
+        }
+    }
 }
 
-/// Histories: after every call each cut is opened, and asked what comes next; then one of the cuts is what happened.
-/// Losses and probes are asked after each cut, by one Ky, and after the last call by each at an edge.
-fn histories(t: &mut Tally, g: &mut Dice) -> (u64, u64, u64) {
-    let (mut calls, mut torn, mut cut_openings) = (0, 0, 0);
+/// What came up in the histories: calls, those by a role that is handed no stores, torn openings, and cuts within an
+/// opening's stores.
+#[derive(Default)]
+struct Seen { calls: u64, kept: u64, torn: u64, cut: u64 }
+
+/// Histories, one call in three by any role: after every call each cut is opened, and asked what comes next; then one
+/// of the cuts is what happened. Losses and probes are asked after each cut, by one Ky, and after the last call by each
+/// at an edge.
+fn histories(t: &mut Tally, g: &mut Dice) -> Seen {
+    let mut seen = Seen::default();
     for history in 1..=2_800 {
         let (long, fill) = (history % 16 == 0, history % 200 == 0);
         let sheets = random::sheets(&random::fields(g, if long { plain::DAYS as u32 } else { 12 }));
@@ -747,9 +768,9 @@ fn histories(t: &mut Tally, g: &mut Dice) -> (u64, u64, u64) {
         let mut area = vec![0xff; length];
         let mut book = Book::new(sheets.season(), length);
         let calm = g.one_in(2);
-        for _ in 0..if fill { 1_500 } else if long { 300 } else { 40 } {
-            calls += 1;
-            let now = matches!(book.open().opening, Opening::Torn(..));
+        for _ in 0..if fill { 2_250 } else if long { 450 } else { 60 } {
+            seen.calls += 1;
+            let now = matches!(book.open(3).opening, Opening::Torn(..));
             let amount = random::amount(g);
             let call = match g.of(0, 9) {
                 _ if now && !g.one_in(4) => Call::Open,
@@ -759,14 +780,20 @@ fn histories(t: &mut Tally, g: &mut Dice) -> (u64, u64, u64) {
                 _ if fill && !g.one_in(4) => Call::Rain(g.of(16_384, 17_000)),
                 _ => Call::Close,
             };
-            let out = t.same(g, &sheets, &area, asking(call));
+            let role = random::role(g, call);
+            let asked = (role, call.into());
+            let out = t.asked(g, &sheets, &area, asked);
             let handed = stores(call, &out);
-            let want = book.answer(call);
+            let want = book.answer(role, call);
             if (want.number, want.value as u32, &want.stores) != (out[0], out[1], &handed) {
-                not_the_book(&sheets, &area, asking(call), out, format!("{want:?}"));
+                not_the_book(&sheets, &area, asked, out, format!("{want:?}"));
             }
             if call == Call::Open {
-                as_the_book(&sheets, &area, Ask::Open, out, &numbers::opened(book.open()));
+                as_the_book(&sheets, &area, asked, out, &numbers::opened(book.open(role)));
+            }
+            if role != 3 && (role != 2 || call == Call::Open) {
+                assert!(handed.is_empty(), "{asked:?} hands back stores");
+                seen.kept += 1;
             }
             let ky = random::ky(g);
             for done in 0..=handed.len() {
@@ -774,28 +801,28 @@ fn histories(t: &mut Tally, g: &mut Dice) -> (u64, u64, u64) {
                 for &(place, byte) in &handed[..done] {
                     cut[place] = byte;
                 }
-                after.call(call, done);
-                torn += matches!(after.open().opening, Opening::Torn(..)) as u64;
-                cut_openings += (call == Call::Open && 0 < done && done < handed.len()) as u64;
-                let found = t.same(g, &sheets, &cut, Ask::Open);
-                as_the_book(&sheets, &cut, Ask::Open, found, &numbers::opened(after.open()));
-                loss_and_probe(t, g, (&sheets, &cut), &after, ky);
+                after.call(role, call, done);
+                seen.torn += matches!(after.open(3).opening, Opening::Torn(..)) as u64;
+                seen.cut += (call == Call::Open && 0 < done && done < handed.len()) as u64;
+                looks(t, g, (&sheets, &cut), &after, ky);
                 for next in [Ask::Close, Ask::Rain(amount), Ask::Irrigation(amount)] {
                     t.same(g, &sheets, &cut, next);
                 }
             }
-            let done = if g.one_in(if calm { 12 } else { 3 }) { g.of(0, handed.len() as u32) as usize } else { handed.len() };
-            for &(place, byte) in &handed[..done] {
+            // Where there are no stores, the book is told of some that are done all the same.
+            let all = if handed.is_empty() { 4 } else { handed.len() };
+            let done = if g.one_in(if calm { 12 } else { 3 }) { g.of(0, all as u32) as usize } else { all };
+            for &(place, byte) in handed.iter().take(done) {
                 area[place] = byte;
             }
-            book.call(call, done);
+            book.call(role, call, done);
         }
         t.same(g, &sheets, &area, Ask::Plan(plain::DAYS));
         for ky in random::KYS {
-            loss_and_probe(t, g, (&sheets, &area), &book, ky);
+            looks(t, g, (&sheets, &area), &book, ky);
         }
     }
-    (calls, torn, cut_openings)
+    seen
 }
 
 /// How many numbers at either end of a long buffer are noise before a call and compared after it.
@@ -843,29 +870,34 @@ impl Long {
     }
 
     /// What one of the implementations answers, and what stood there before: noise.
-    fn answer(&mut self, which: usize, sheets: (usize, usize), area: usize, ask: Ask) -> (Answer, Answer) {
-        let (lent, mut out) = (&mut self.lent[which][..ask.lent()], noisy(7));
+    fn answer(&mut self, which: usize, sheets: (usize, usize), area: usize, asked: Asked) -> (Answer, Answer) {
+        let (lent, mut out) = (&mut self.lent[which][..asked.1.lent()], noisy(7));
         let k = lent.len().min(ENDS);
         lent[..k].fill(8);
         lent.iter_mut().rev().take(k).for_each(|v| *v = 9);
         let before = (out, ends(lent));
         let pair = (&self.climate[..sheets.0], &self.block[..sheets.1]);
-        [by_library, by_plain][which](pair, &self.area[..area], ask, &mut out, lent);
+        [by_library, by_plain][which](pair, &self.area[..area], asked, &mut out, lent);
         ((out, ends(lent)), before)
     }
 
-    /// One case. Document 01 has `out` and `numbers` for the first numbers of `out` and of the lent buffer.
+    /// One case by each role. Document 01 has `out` and `numbers` for the first numbers of `out` and of the lent buffer
+    /// where role 3 asks.
     fn case(&mut self, sheets: (usize, usize), area: usize, ask: Ask, out: &[u32], numbers: &[u32]) {
-        let ((left, mut want), (right, _)) = (self.answer(0, sheets, area, ask), self.answer(1, sheets, area, ask));
-        want.0[..out.len()].copy_from_slice(out);
-        want.1[..numbers.len()].copy_from_slice(numbers);
-        for (what, other) in [("plain implementation", right), ("document 01", want)] {
-            if left != other {
-                let pair = (&self.climate[..sheets.0], &self.block[..sheets.1]);
-                differ(what, pair, &self.area[..area], ask, &left, &other);
+        for role in random::ROLES {
+            let [(left, before), (right, _)] = [0, 1].map(|which| self.answer(which, sheets, area, (role, ask)));
+            let mut third = before.clone();
+            third.0[..out.len()].copy_from_slice(out);
+            third.1[..numbers.len()].copy_from_slice(numbers);
+            let want = by_rule(role, ask.right(), &third, &before);
+            for (what, other) in [("plain implementation", right), ("the documents", want)] {
+                if left != other {
+                    let pair = (&self.climate[..sheets.0], &self.block[..sheets.1]);
+                    differ(what, pair, &self.area[..area], (role, ask), &left, &other);
+                }
             }
+            self.cases += 1;
         }
-        self.cases += 1;
     }
 
     /// Sheets of such lengths: bytes follow the last number of one of them.
@@ -882,28 +914,35 @@ impl Long {
         }
     }
 
-    /// A writer, which makes its small sheet where it stands: into so many bytes, noise behind it and at the end.
+    /// A writer by each role, where its small sheet stands: into so many bytes, noise at the start and at the end. Then
+    /// the sheet stands there again.
     fn writer(&mut self, writer: Writer, length: usize) {
         let f = random::with(random::small(127), &[(41, self.february)]);
         let (small, fields) = (writer.sheet(&random::sheets(&f)).to_vec(), writer.fields(&f));
         let whole = small.len();
-        for answer in [written_by_library, written_by_plain] {
-            let (mut out, mut want) = (noisy(7), noisy(7));
-            let sheet = match writer {
-                Writer::Climate => &mut self.climate[..length],
-                Writer::Block => &mut self.block[..length],
-            };
-            want[..3].copy_from_slice(&[0, 0, whole as u32]);
-            sheet[..ENDS].fill(8);
-            sheet[length - ENDS..].fill(9);
-            answer(writer, &fields, sheet, &mut out);
-            let (first, last) = (&sheet[..ENDS], &sheet[length - ENDS..]);
-            let bytes = first[..whole] == small && first[whole..] == [8; ENDS][whole..] && last == [9; ENDS];
-            assert!(out == want && bytes, "{writer:?} writer, {length} bytes");
-            sheet[whole..ENDS].fill(0);
-            sheet[length - ENDS..].fill(0);
+        let before = (noisy(7), [[8; ENDS], [9; ENDS]].concat());
+        let mut third = before.clone();
+        third.0[..3].copy_from_slice(&[0, 0, whole as u32]);
+        third.1[..whole].copy_from_slice(&small);
+        let sheet = match writer {
+            Writer::Climate => &mut self.climate[..length],
+            Writer::Block => &mut self.block[..length],
+        };
+        for role in random::ROLES {
+            for answer in [written_by_library, written_by_plain] {
+                let mut out = noisy(7);
+                sheet[..ENDS].fill(8);
+                sheet[length - ENDS..].fill(9);
+                answer(writer, role, &fields, sheet, &mut out);
+                let made = (out, [&sheet[..ENDS], &sheet[length - ENDS..]].concat());
+                let want = by_rule(role, Right::Look, &third, &before);
+                assert!(made == want, "{writer:?} writer by role {role}, {length} bytes");
+            }
+            self.cases += 1;
         }
-        self.cases += 1;
+        sheet[..whole].copy_from_slice(&small);
+        sheet[whole..ENDS].fill(0);
+        sheet[length - ENDS..].fill(0);
     }
 
     /// The plan and the table of the small pair, as document 01 prints them.
@@ -947,11 +986,12 @@ fn main() {
     let seed = std::env::args().nth(1).map_or(20_261_115, |s| s.parse().expect("the seed is a number"));
     println!("seed {seed}");
     let mut g = Dice(seed);
-    let mut t = Tally { cases: 0, answers: [[0; 20]; 10], by_climate: [[0; 5]; 8], as_one: 0, guards: Guards::new() };
+    let mut t = Tally { cases: 0, answers: [[0; 22]; 10], by_climate: [[0; 5]; 8], as_one: 0, guards: Guards::new() };
     memory::report_faults();
-    let parts: [(&str, fn(&mut Tally, &mut Dice)); 13] = [
+    let parts: [(&str, fn(&mut Tally, &mut Dice)); 14] = [
         ("pairs of sheets, valid and damaged", pairs), ("pairs cut, changed and extended at every place", places),
         ("pairs by document 02", pairs_by_document), ("sheets written", writers),
+        ("roles by document 02, every call by every role", roles),
         ("seventeenth numbers by document 02", februaries),
         ("the longest season and a day more, from every date", longest),
         ("areas of 0 to 8,193 bytes", lengths), ("journals clean, torn and damaged", journals),
@@ -967,8 +1007,10 @@ fn main() {
         println!("{name}: {} cases", t.cases - before);
     }
     let before = t.cases;
-    let (calls, torn, cut) = histories(&mut t, &mut g);
-    println!("histories, a cut after every store: {} cases, {calls} calls, {torn} torn openings, {cut} cuts within an opening's stores", t.cases - before);
+    let Seen { calls, kept, torn, cut } = histories(&mut t, &mut g);
+    println!("histories with roles, a cut after every store: {} cases", t.cases - before);
+    println!("{calls} calls, {kept} of them by a role that is handed no stores");
+    println!("{torn} torn openings, {cut} cuts within an opening's stores");
     println!("accepted pairs read as one sheet too: {} times", t.as_one);
     println!("guard pages: {} buffers ended before one, {} began behind one", t.guards.ended, t.guards.began);
     println!("lengths of 2^16, 2^31 and 2^32 and more: {} cases beside those counted below", long_lengths());

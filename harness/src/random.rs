@@ -26,6 +26,18 @@ impl Dice {
     }
 }
 
+/// Roles: the three that there are, and numbers beside them.
+pub const ROLES: [u32; 6] = [0, 1, 2, 3, 4, u32::MAX];
+
+/// A role for a call: one in three is any of these, the others may make it and are handed its stores.
+pub fn role(g: &mut Dice, call: book::Call) -> u32 {
+    match call {
+        _ if g.one_in(3) => g.pick(&ROLES),
+        book::Call::Open => 3,
+        _ => g.of(2, 3),
+    }
+}
+
 /// Fields 1 to 40 and the days of February, in the order of their numbers.
 pub type Fields = [u32; 41];
 
@@ -101,10 +113,10 @@ impl Writer {
         }
     }
 
-    pub fn write(self, fields: &[u32], sheet: &mut [u8]) -> Written {
+    pub fn write(self, role: u32, fields: &[u32], sheet: &mut [u8]) -> Written {
         match self {
-            Writer::Climate => write_climate(fields.try_into().unwrap(), sheet),
-            Writer::Block => write_block(fields.try_into().unwrap(), sheet),
+            Writer::Climate => write_climate(role, fields.try_into().unwrap(), sheet),
+            Writer::Block => write_block(role, fields.try_into().unwrap(), sheet),
         }
     }
 }
@@ -418,7 +430,7 @@ pub fn journal(g: &mut Dice, sheets: &Sheets, length: usize) -> (Vec<u8>, Ledger
         put(&mut area, book::Entry::Irrigation(g.pick(&[1, 40, 900, 5_000])));
         put(&mut area, book::Entry::Rain(g.pick(&[1, 40, 900, 5_000])));
     }
-    match open(&sheets.climate, &sheets.block, &area).opening {
+    match open(1, &sheets.climate, &sheets.block, &area).opening {
         Opening::Clean(l) => (area, l),
         other => panic!("{other:?}"),
     }

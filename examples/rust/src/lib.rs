@@ -34,6 +34,13 @@ pub const NO_CHOICE: u32 = 16;
 pub const KY_OUT_OF_RANGE: u32 = 17;
 pub const CONTENT_OUT_OF_RANGE: u32 = 18;
 pub const NO_CONTENT: u32 = 19;
+pub const ROLE_OUT_OF_RANGE: u32 = 20;
+pub const ROLE_MAY_NOT_RECORD: u32 = 21;
+
+/// Who calls. A role is a plain number, since the call itself refuses every other one.
+pub const LOOK: u32 = 1;
+pub const RECORD: u32 = 2;
+pub const MEND: u32 = 3;
 
 /// What a probe gives: a water content, its supply voltage where the battery is low, or nothing.
 #[derive(Clone, Copy, Debug)]
@@ -55,97 +62,106 @@ impl Probe {
 mod c {
     extern "C" {
         pub fn balladsky_open(
-            climate: *const u8, climate_length: usize, block: *const u8, block_length: usize, area: *const u8,
-            area_length: usize, out: *mut u32,
+            role: u32, climate: *const u8, climate_length: usize, block: *const u8, block_length: usize,
+            area: *const u8, area_length: usize, out: *mut u32,
         );
         pub fn balladsky_rain(
-            climate: *const u8, climate_length: usize, block: *const u8, block_length: usize, area: *const u8,
-            area_length: usize, amount: u32, out: *mut u32,
+            role: u32, climate: *const u8, climate_length: usize, block: *const u8, block_length: usize,
+            area: *const u8, area_length: usize, amount: u32, out: *mut u32,
         );
         pub fn balladsky_irrigation(
-            climate: *const u8, climate_length: usize, block: *const u8, block_length: usize, area: *const u8,
-            area_length: usize, amount: u32, out: *mut u32,
+            role: u32, climate: *const u8, climate_length: usize, block: *const u8, block_length: usize,
+            area: *const u8, area_length: usize, amount: u32, out: *mut u32,
         );
         pub fn balladsky_close(
-            climate: *const u8, climate_length: usize, block: *const u8, block_length: usize, area: *const u8,
-            area_length: usize, out: *mut u32,
+            role: u32, climate: *const u8, climate_length: usize, block: *const u8, block_length: usize,
+            area: *const u8, area_length: usize, out: *mut u32,
         );
         pub fn balladsky_loss(
-            climate: *const u8, climate_length: usize, block: *const u8, block_length: usize, area: *const u8,
-            area_length: usize, ky: u32, out: *mut u32,
+            role: u32, climate: *const u8, climate_length: usize, block: *const u8, block_length: usize,
+            area: *const u8, area_length: usize, ky: u32, out: *mut u32,
         );
         pub fn balladsky_probe(
-            climate: *const u8, climate_length: usize, block: *const u8, block_length: usize, area: *const u8,
-            area_length: usize, shallow_kind: u32, shallow: f32, deep_kind: u32, deep: f32, capacity: u32,
-            out: *mut u32,
+            role: u32, climate: *const u8, climate_length: usize, block: *const u8, block_length: usize,
+            area: *const u8, area_length: usize, shallow_kind: u32, shallow: f32, deep_kind: u32, deep: f32,
+            capacity: u32, out: *mut u32,
         );
         pub fn balladsky_plan(
-            climate: *const u8, climate_length: usize, block: *const u8, block_length: usize, area: *const u8,
-            area_length: usize, depths: *mut u32, depths_length: usize, out: *mut u32,
+            role: u32, climate: *const u8, climate_length: usize, block: *const u8, block_length: usize,
+            area: *const u8, area_length: usize, depths: *mut u32, depths_length: usize, out: *mut u32,
         );
         pub fn balladsky_table(
-            climate: *const u8, climate_length: usize, block: *const u8, block_length: usize, rows: *mut u32,
-            rows_length: usize, out: *mut u32,
+            role: u32, climate: *const u8, climate_length: usize, block: *const u8, block_length: usize,
+            rows: *mut u32, rows_length: usize, out: *mut u32,
         );
-        pub fn balladsky_write_climate(fields: *const u32, climate: *mut u8, climate_length: usize, out: *mut u32);
-        pub fn balladsky_write_block(fields: *const u32, block: *mut u8, block_length: usize, out: *mut u32);
+        pub fn balladsky_write_climate(
+            role: u32, fields: *const u32, climate: *mut u8, climate_length: usize, out: *mut u32,
+        );
+        pub fn balladsky_write_block(
+            role: u32, fields: *const u32, block: *mut u8, block_length: usize, out: *mut u32,
+        );
     }
 }
 
-pub fn open(climate: &[u8], block: &[u8], area: &[u8], out: &mut Out) {
+pub fn open(role: u32, climate: &[u8], block: &[u8], area: &[u8], out: &mut Out) {
     let (c, b, a, out) = (climate.as_ptr(), block.as_ptr(), area.as_ptr(), out.as_mut_ptr());
-    unsafe { c::balladsky_open(c, climate.len(), b, block.len(), a, area.len(), out) }
+    unsafe { c::balladsky_open(role, c, climate.len(), b, block.len(), a, area.len(), out) }
 }
 
-pub fn rain(climate: &[u8], block: &[u8], area: &[u8], amount: u32, out: &mut Out) {
+pub fn rain(role: u32, climate: &[u8], block: &[u8], area: &[u8], amount: u32, out: &mut Out) {
     let (c, b, a, out) = (climate.as_ptr(), block.as_ptr(), area.as_ptr(), out.as_mut_ptr());
-    unsafe { c::balladsky_rain(c, climate.len(), b, block.len(), a, area.len(), amount, out) }
+    unsafe { c::balladsky_rain(role, c, climate.len(), b, block.len(), a, area.len(), amount, out) }
 }
 
-pub fn irrigation(climate: &[u8], block: &[u8], area: &[u8], amount: u32, out: &mut Out) {
+pub fn irrigation(role: u32, climate: &[u8], block: &[u8], area: &[u8], amount: u32, out: &mut Out) {
     let (c, b, a, out) = (climate.as_ptr(), block.as_ptr(), area.as_ptr(), out.as_mut_ptr());
-    unsafe { c::balladsky_irrigation(c, climate.len(), b, block.len(), a, area.len(), amount, out) }
+    unsafe { c::balladsky_irrigation(role, c, climate.len(), b, block.len(), a, area.len(), amount, out) }
 }
 
-pub fn close(climate: &[u8], block: &[u8], area: &[u8], out: &mut Out) {
+pub fn close(role: u32, climate: &[u8], block: &[u8], area: &[u8], out: &mut Out) {
     let (c, b, a, out) = (climate.as_ptr(), block.as_ptr(), area.as_ptr(), out.as_mut_ptr());
-    unsafe { c::balladsky_close(c, climate.len(), b, block.len(), a, area.len(), out) }
+    unsafe { c::balladsky_close(role, c, climate.len(), b, block.len(), a, area.len(), out) }
 }
 
-pub fn loss(climate: &[u8], block: &[u8], area: &[u8], ky: u32, out: &mut Out) {
+pub fn loss(role: u32, climate: &[u8], block: &[u8], area: &[u8], ky: u32, out: &mut Out) {
     let (c, b, a, out) = (climate.as_ptr(), block.as_ptr(), area.as_ptr(), out.as_mut_ptr());
-    unsafe { c::balladsky_loss(c, climate.len(), b, block.len(), a, area.len(), ky, out) }
+    unsafe { c::balladsky_loss(role, c, climate.len(), b, block.len(), a, area.len(), ky, out) }
 }
 
-pub fn probe(climate: &[u8], block: &[u8], area: &[u8], shallow: Probe, deep: Probe, capacity: u32, out: &mut Out) {
-    probe_of_any_kind(climate, block, area, shallow.reading(), deep.reading(), capacity, out)
+pub fn probe(
+    role: u32, climate: &[u8], block: &[u8], area: &[u8], shallow: Probe, deep: Probe, capacity: u32, out: &mut Out,
+) {
+    probe_of_any_kind(role, climate, block, area, shallow.reading(), deep.reading(), capacity, out)
 }
 
 /// The same with any kinds.
 pub fn probe_of_any_kind(
-    climate: &[u8], block: &[u8], area: &[u8], shallow: Reading, deep: Reading, capacity: u32, out: &mut Out,
+    role: u32, climate: &[u8], block: &[u8], area: &[u8], shallow: Reading, deep: Reading, capacity: u32,
+    out: &mut Out,
 ) {
     let (c, b, a, out) = (climate.as_ptr(), block.as_ptr(), area.as_ptr(), out.as_mut_ptr());
     let ((s, shallow), (d, deep)) = (shallow, deep);
-    unsafe { c::balladsky_probe(c, climate.len(), b, block.len(), a, area.len(), s, shallow, d, deep, capacity, out) }
+    unsafe {
+        c::balladsky_probe(role, c, climate.len(), b, block.len(), a, area.len(), s, shallow, d, deep, capacity, out)
+    }
 }
 
-pub fn plan(climate: &[u8], block: &[u8], area: &[u8], depths: &mut [u32], out: &mut Out) {
+pub fn plan(role: u32, climate: &[u8], block: &[u8], area: &[u8], depths: &mut [u32], out: &mut Out) {
     let (c, b, a, d, out) = (climate.as_ptr(), block.as_ptr(), area.as_ptr(), depths.as_mut_ptr(), out.as_mut_ptr());
-    unsafe { c::balladsky_plan(c, climate.len(), b, block.len(), a, area.len(), d, depths.len(), out) }
+    unsafe { c::balladsky_plan(role, c, climate.len(), b, block.len(), a, area.len(), d, depths.len(), out) }
 }
 
-pub fn table(climate: &[u8], block: &[u8], rows: &mut [u32], out: &mut Out) {
+pub fn table(role: u32, climate: &[u8], block: &[u8], rows: &mut [u32], out: &mut Out) {
     let (c, b, r, out) = (climate.as_ptr(), block.as_ptr(), rows.as_mut_ptr(), out.as_mut_ptr());
-    unsafe { c::balladsky_table(c, climate.len(), b, block.len(), r, rows.len(), out) }
+    unsafe { c::balladsky_table(role, c, climate.len(), b, block.len(), r, rows.len(), out) }
 }
 
 /// Fields 10 to 33.
-pub fn write_climate(fields: &[u32; CLIMATE_FIELDS], climate: &mut [u8], out: &mut Out) {
-    unsafe { c::balladsky_write_climate(fields.as_ptr(), climate.as_mut_ptr(), climate.len(), out.as_mut_ptr()) }
+pub fn write_climate(role: u32, fields: &[u32; CLIMATE_FIELDS], climate: &mut [u8], out: &mut Out) {
+    unsafe { c::balladsky_write_climate(role, fields.as_ptr(), climate.as_mut_ptr(), climate.len(), out.as_mut_ptr()) }
 }
 
 /// Fields 1 to 9, 34 to 40 and the days of February, 28 or 29; 28 is left out of the sheet.
-pub fn write_block(fields: &[u32; BLOCK_FIELDS], block: &mut [u8], out: &mut Out) {
-    unsafe { c::balladsky_write_block(fields.as_ptr(), block.as_mut_ptr(), block.len(), out.as_mut_ptr()) }
+pub fn write_block(role: u32, fields: &[u32; BLOCK_FIELDS], block: &mut [u8], out: &mut Out) {
+    unsafe { c::balladsky_write_block(role, fields.as_ptr(), block.as_mut_ptr(), block.len(), out.as_mut_ptr()) }
 }

@@ -1,6 +1,8 @@
-//! A season of four days on the small pair of sheets, with two power cuts. Prints the decade table, what the soil
-//! probes say on day 3, the ledger and the lost yield.
-use balladsky::{close, irrigation, loss, open, plan, probe, rain, table, Out, Probe, ACCEPTED, DEPTHS, OUT, ROWS, TORN};
+//! A season of four days on the small pair of sheets, with two power cuts. Firmware opens as role 3, role 2 records,
+//! and role 1 looks at the panel and presses the wrong key. Prints the decade table, what the soil probes say on day 3,
+//! the ledger and the lost yield.
+use balladsky::{close, irrigation, loss, open, plan, probe, rain, table};
+use balladsky::{Out, Probe, ACCEPTED, DEPTHS, LOOK, MEND, OUT, RECORD, ROWS, TORN};
 
 /// ETo 500 and eleven 0; rain twelve 0.
 const CLIMATE: [u8; 25] = [0xf4, 3, 0, 0, 0, 0, 0, 0, 0, 0, 0, 0, 0, 0, 0, 0, 0, 0, 0, 0, 0, 0, 0, 0, 0];
@@ -8,7 +10,7 @@ const CLIMATE: [u8; 25] = [0xf4, 3, 0, 0, 0, 0, 0, 0, 0, 0, 0, 0, 0, 0, 0, 0, 0,
 /// 1 9; 1 1 1 1; 40 100 60; 100 20 20 50; 75; 0; turns 127.
 const BLOCK: [u8; 16] = [1, 9, 1, 1, 1, 1, 40, 100, 60, 100, 20, 20, 50, 75, 0, 127];
 
-type EntryCall = fn(&[u8], &[u8], &[u8], u32, &mut Out);
+type EntryCall = fn(u32, &[u8], &[u8], &[u8], u32, &mut Out);
 
 struct Firmware {
     area: [u8; 64],
@@ -30,7 +32,7 @@ impl Firmware {
     /// Six numbers a row.
     fn print_table(&mut self) {
         let mut rows = [0; ROWS];
-        table(&CLIMATE, &BLOCK, &mut rows, &mut self.out);
+        table(LOOK, &CLIMATE, &BLOCK, &mut rows, &mut self.out);
         self.accepted("table");
         let count = self.out[2] as usize;
         println!("table: {count} row{}", if count == 1 { "" } else { "s" });
@@ -39,36 +41,49 @@ impl Firmware {
         }
     }
 
-    /// What firmware does when it comes up: open, and do the stores that mend what a cut left.
-    fn come_up(&mut self) {
-        open(&CLIMATE, &BLOCK, &self.area, &mut self.out);
-        if self.out[0] != TORN {
-            return self.accepted("open");
+    /// Opens as a role. Only role 3 is told places to mend.
+    fn open_as(&mut self, role: u32) {
+        open(role, &CLIMATE, &BLOCK, &self.area, &mut self.out);
+        if self.out[0] == TORN {
+            println!("role {role} opens: torn at {}, {} to mend", self.out[1], self.out[20]);
+        } else {
+            self.accepted("open");
+            println!("role {role} opens: clean");
         }
-        println!("torn at {}", self.out[1]);
-        print!("mended {} place{}:", self.out[20], if self.out[20] == 1 { "" } else { "s" });
+    }
+
+    /// What firmware does when it comes up, whoever stands at the panel: open as role 3, and do the stores that mend
+    /// what a cut left.
+    fn come_up(&mut self) {
+        self.open_as(MEND);
         for place in &self.out[21..][..self.out[20] as usize] {
             self.area[*place as usize] = 0xff;
-            print!(" {place}");
+            println!("place {place} mended");
         }
-        println!();
+    }
+
+    /// The rain key, pressed by a role that may not record.
+    fn press_rain(&mut self, role: u32, amount: u32) {
+        rain(role, &CLIMATE, &BLOCK, &self.area, amount, &mut self.out);
+        println!("role {role} presses rain {amount}: refused {} {}", self.out[0], self.out[1]);
     }
 
     /// Enters water; the power goes after `cut` stores, and it is entered again.
     fn enter_with_cut(&mut self, name: &str, call: EntryCall, amount: u32, cut: u32) {
-        call(&CLIMATE, &BLOCK, &self.area, amount, &mut self.out);
+        call(RECORD, &CLIMATE, &BLOCK, &self.area, amount, &mut self.out);
         self.accepted(name);
         println!("{name} {amount}: power cut after {cut} of {} stores", self.out[3]);
         self.store(cut);
+        self.open_as(LOOK);
         self.come_up();
-        call(&CLIMATE, &BLOCK, &self.area, amount, &mut self.out);
+        call(RECORD, &CLIMATE, &BLOCK, &self.area, amount, &mut self.out);
         self.accepted(name);
         println!("{name} {amount}: {} stores from {}", self.out[3], self.out[2]);
         self.store(self.out[3]);
     }
 
     fn close_day(&mut self, day: u32) {
-        close(&CLIMATE, &BLOCK, &self.area, &mut self.out);
+        close(RECORD, &CLIMATE, &BLOCK, &self.area, &mut self.out);
         self.accepted("close");
         self.store(self.out[3]);
         println!("day {day} closed");
@@ -76,7 +91,7 @@ impl Firmware {
 
     /// The ledger's depletion beside the measured one, in a soil whose field capacity is 0.3 of its volume.
     fn print_probes(&mut self, what: &str, shallow: Probe, deep: Probe) {
-        probe(&CLIMATE, &BLOCK, &self.area, shallow, deep, 3_000, &mut self.out);
+        probe(LOOK, &CLIMATE, &BLOCK, &self.area, shallow, deep, 3_000, &mut self.out);
         match self.out {
             [ACCEPTED, _, ledger, measured, ..] => println!("probes, {what}: ledger {ledger}, measured {measured}"),
             [number, value, ..] => println!("probes, {what}: refused {number} {value}"),
@@ -84,7 +99,7 @@ impl Firmware {
     }
 
     fn print_ledger(&mut self) {
-        open(&CLIMATE, &BLOCK, &self.area, &mut self.out);
+        open(LOOK, &CLIMATE, &BLOCK, &self.area, &mut self.out);
         self.accepted("open");
         let names = [
             "open day", "depletion", "waiting rain", "waiting irrigation", "season rain", "season irrigation",
@@ -100,7 +115,7 @@ impl Firmware {
 
     /// The season's and the four stages', in ten-thousandths.
     fn print_loss(&mut self, ky: u32) {
-        loss(&CLIMATE, &BLOCK, &self.area, ky, &mut self.out);
+        loss(LOOK, &CLIMATE, &BLOCK, &self.area, ky, &mut self.out);
         self.accepted("loss");
         let [_, _, season, initial, development, mid, late, ..] = self.out;
         println!("loss with Ky {ky}: season {season}, stages {initial} {development} {mid} {late}");
@@ -110,7 +125,9 @@ impl Firmware {
 fn main() {
     let mut f = Firmware { area: [0xff; 64], out: [0; OUT] };
     let mut depths = [0; DEPTHS];
+    f.come_up();
     f.print_table();
+    f.press_rain(LOOK, 300);
     f.enter_with_cut("rain", rain, 300, 2);
     f.close_day(1);
     f.close_day(2);
@@ -118,7 +135,7 @@ fn main() {
     f.print_probes("shallow low", Probe::Low(2.9), Probe::Water(0.28125));
     f.print_probes("both silent", Probe::Silent, Probe::Silent);
     f.print_probes("shallow NaN", Probe::Water(f32::from_bits(0x7fc0_0000)), Probe::Water(0.28125));
-    plan(&CLIMATE, &BLOCK, &f.area, &mut depths, &mut f.out);
+    plan(LOOK, &CLIMATE, &BLOCK, &f.area, &mut depths, &mut f.out);
     f.accepted("plan");
     let (waterings, net, gross) = (f.out[2], f.out[3], f.out[4]);
     println!("plan: {waterings} watering{}, net {net}, gross {gross}", if waterings == 1 { "" } else { "s" });

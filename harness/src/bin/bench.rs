@@ -1,9 +1,10 @@
 //! Measures the library and the plain implementation side by side in one run: medians of 401 rounds, each a batch of
 //! about 20 µs of the one, then of the other, and the ratio of the medians. Every number of every answer is compared
-//! first. Journals of mixed lengths, usual seasons, those torn and pairs to write are 32 each, taken in turn.
+//! first. Journals of mixed lengths, usual seasons, those torn and pairs to write are 32 each, taken in turn. Role 3
+//! opens, role 2 records and role 1 asks the rest, which neither implementation knows before the call.
 //!
 //!     cargo run --release --manifest-path harness/Cargo.toml --bin bench
-use balladsky::{self as library, Out, OUT};
+use balladsky::{self as library, Out, LOOK, MEND, OUT, RECORD};
 use harness::plain::book::{bytes, Entry};
 use harness::random::{self, Dice, Sheets};
 use harness::{numbers, plain};
@@ -135,48 +136,49 @@ fn hidden(s: &Sheets) -> (&[u8], &[u8]) {
     black_box(s.pair())
 }
 
-/// A call on journals, by the library and by the plain implementation; `number` is what it answers first.
+/// A call by a role on journals, by the library and by the plain implementation; `number` is what it answers first.
 fn journal_line<'a, A>(
-    name: String, number: u32, s: &'a Sheets, areas: &'a [Vec<u8>], ours: impl Fn(&[u8], &[u8], &[u8], &mut Out) + 'a,
-    plain: impl Fn(&[u8], &[u8], &[u8]) -> A + 'a, numbers: fn(A) -> Vec<u32>,
+    name: String, number: u32, role: u32, s: &'a Sheets, areas: &'a [Vec<u8>],
+    ours: impl Fn(u32, &[u8], &[u8], &[u8], &mut Out) + 'a, plain: impl Fn(u32, &[u8], &[u8], &[u8]) -> A + 'a,
+    numbers: fn(A) -> Vec<u32>,
 ) -> Line<'a> {
     let mut out = [NOISE; OUT];
     for area in areas {
         out = [NOISE; OUT];
-        ours(&s.climate, &s.block, area, &mut out);
-        same(&name, number, &out, &numbers(plain(&s.climate, &s.block, area)));
+        ours(role, &s.climate, &s.block, area, &mut out);
+        same(&name, number, &out, &numbers(plain(role, &s.climate, &s.block, area)));
     }
     line(
         name,
         in_turn(areas, move |area| {
             let (climate, block) = hidden(s);
-            ours(climate, block, area, black_box(&mut out))
+            ours(black_box(role), climate, block, area, black_box(&mut out))
         }),
         in_turn(areas, move |area| {
             let (climate, block) = hidden(s);
-            black_box(plain(climate, block, area));
+            black_box(plain(black_box(role), climate, block, area));
         }),
     )
 }
 
 /// Openings that find the journals clean, or torn: 0 or 10.
 fn open_line<'a>(name: &str, found: u32, s: &'a Sheets, areas: &'a [Vec<u8>]) -> Line<'a> {
-    journal_line(format!("open: {name}"), found, s, areas, library::open, plain::open, numbers::opened)
+    journal_line(format!("open: {name}"), found, MEND, s, areas, library::open, plain::open, numbers::opened)
 }
 
 fn rain_line<'a>(name: &str, s: &'a Sheets, areas: &'a [Vec<u8>]) -> Line<'a> {
     journal_line(
-        format!("rain on: {name}"), library::ACCEPTED, s, areas,
-        |climate, block, area, out| library::rain(climate, block, area, black_box(20), out),
-        |climate, block, area| plain::rain(climate, block, area, black_box(20)), numbers::recorded,
+        format!("rain on: {name}"), library::ACCEPTED, RECORD, s, areas,
+        |role, climate, block, area, out| library::rain(role, climate, block, area, black_box(20), out),
+        |role, climate, block, area| plain::rain(role, climate, block, area, black_box(20)), numbers::recorded,
     )
 }
 
 fn loss_line<'a>(name: &str, s: &'a Sheets, areas: &'a [Vec<u8>]) -> Line<'a> {
     journal_line(
-        format!("loss: {name}"), library::ACCEPTED, s, areas,
-        |climate, block, area, out| library::loss(climate, block, area, black_box(105), out),
-        |climate, block, area| plain::loss(climate, block, area, black_box(105)), numbers::lost,
+        format!("loss: {name}"), library::ACCEPTED, LOOK, s, areas,
+        |role, climate, block, area, out| library::loss(role, climate, block, area, black_box(105), out),
+        |role, climate, block, area| plain::loss(role, climate, block, area, black_box(105)), numbers::lost,
     )
 }
 
@@ -184,14 +186,14 @@ fn loss_line<'a>(name: &str, s: &'a Sheets, areas: &'a [Vec<u8>]) -> Line<'a> {
 fn probe_line<'a>(name: &str, s: &'a Sheets, areas: &'a [Vec<u8>]) -> Line<'a> {
     let given = || black_box(((1, 0.19), (1, 0.23), 3_000));
     journal_line(
-        format!("probe: {name}"), library::ACCEPTED, s, areas,
-        move |climate, block, area, out| {
+        format!("probe: {name}"), library::ACCEPTED, LOOK, s, areas,
+        move |role, climate, block, area, out| {
             let (shallow, deep, f) = given();
-            library::probe_of_any_kind(climate, block, area, shallow, deep, f, out)
+            library::probe_of_any_kind(role, climate, block, area, shallow, deep, f, out)
         },
-        move |climate, block, area| {
+        move |role, climate, block, area| {
             let (shallow, deep, f) = given();
-            plain::probe(climate, block, area, shallow, deep, f)
+            plain::probe(role, climate, block, area, shallow, deep, f)
         },
         numbers::probed,
     )
@@ -199,36 +201,36 @@ fn probe_line<'a>(name: &str, s: &'a Sheets, areas: &'a [Vec<u8>]) -> Line<'a> {
 
 fn plan_line<'a>(name: &str, s: &'a Sheets, area: &'a [u8]) -> Line<'a> {
     let (mut out, mut ours, mut theirs) = ([NOISE; OUT], [0; 275], [0; 275]);
-    library::plan(&s.climate, &s.block, area, &mut ours, &mut out);
-    same(name, library::ACCEPTED, &out, &numbers::planned(plain::plan(&s.climate, &s.block, area, &mut theirs)));
+    library::plan(LOOK, &s.climate, &s.block, area, &mut ours, &mut out);
+    same(name, library::ACCEPTED, &out, &numbers::planned(plain::plan(LOOK, &s.climate, &s.block, area, &mut theirs)));
     assert_eq!(ours, theirs, "{name}");
     line(
         format!("plan: 275 days, {name}, {} waterings", out[2]),
         move || {
             let (climate, block) = hidden(s);
-            library::plan(climate, block, black_box(area), black_box(&mut ours), black_box(&mut out))
+            library::plan(black_box(LOOK), climate, block, black_box(area), black_box(&mut ours), black_box(&mut out))
         },
         move || {
             let (climate, block) = hidden(s);
-            black_box(plain::plan(climate, block, black_box(area), black_box(&mut theirs)));
+            black_box(plain::plan(black_box(LOOK), climate, block, black_box(area), black_box(&mut theirs)));
         },
     )
 }
 
 fn table_line(s: &Sheets) -> Line<'_> {
     let (mut out, mut ours, mut theirs) = ([NOISE; OUT], [0; 174], [0; 174]);
-    library::table(&s.climate, &s.block, &mut ours, &mut out);
-    same("table", library::ACCEPTED, &out, &numbers::tabled(plain::table(&s.climate, &s.block, &mut theirs)));
+    library::table(LOOK, &s.climate, &s.block, &mut ours, &mut out);
+    same("table", library::ACCEPTED, &out, &numbers::tabled(plain::table(LOOK, &s.climate, &s.block, &mut theirs)));
     assert_eq!(ours, theirs, "table");
     line(
         format!("table: 275 days, {} rows", out[2]),
         move || {
             let (climate, block) = hidden(s);
-            library::table(climate, block, black_box(&mut ours), black_box(&mut out))
+            library::table(black_box(LOOK), climate, block, black_box(&mut ours), black_box(&mut out))
         },
         move || {
             let (climate, block) = hidden(s);
-            black_box(plain::table(climate, block, black_box(&mut theirs)));
+            black_box(plain::table(black_box(LOOK), climate, block, black_box(&mut theirs)));
         },
     )
 }
@@ -238,22 +240,23 @@ fn write_line(pairs: &[(plain::Climate, plain::Block)]) -> Line<'_> {
     let (mut out, mut ours, mut theirs) = ([NOISE; OUT], ([0xee; 60], [0xee; 27]), ([0xee; 60], [0xee; 27]));
     for (climate, block) in pairs {
         out = [NOISE; OUT];
-        library::write_climate(climate, &mut ours.0, &mut out);
-        same("write climate", library::ACCEPTED, &out, &numbers::written(plain::write_climate(climate, &mut theirs.0)));
+        library::write_climate(LOOK, climate, &mut ours.0, &mut out);
+        let want = plain::write_climate(LOOK, climate, &mut theirs.0);
+        same("write climate", library::ACCEPTED, &out, &numbers::written(want));
         out = [NOISE; OUT];
-        library::write_block(block, &mut ours.1, &mut out);
-        same("write block", library::ACCEPTED, &out, &numbers::written(plain::write_block(block, &mut theirs.1)));
+        library::write_block(LOOK, block, &mut ours.1, &mut out);
+        same("write block", library::ACCEPTED, &out, &numbers::written(plain::write_block(LOOK, block, &mut theirs.1)));
         assert_eq!(ours, theirs, "write");
     }
     line(
         "write both sheets",
         in_turn(pairs, move |(climate, block)| {
-            library::write_climate(climate, black_box(&mut ours.0), black_box(&mut out));
-            library::write_block(block, black_box(&mut ours.1), black_box(&mut out))
+            library::write_climate(black_box(LOOK), climate, black_box(&mut ours.0), black_box(&mut out));
+            library::write_block(black_box(LOOK), block, black_box(&mut ours.1), black_box(&mut out))
         }),
         in_turn(pairs, move |(climate, block)| {
-            black_box(plain::write_climate(climate, black_box(&mut theirs.0)));
-            black_box(plain::write_block(block, black_box(&mut theirs.1)));
+            black_box(plain::write_climate(black_box(LOOK), climate, black_box(&mut theirs.0)));
+            black_box(plain::write_block(black_box(LOOK), block, black_box(&mut theirs.1)));
         }),
     )
 }

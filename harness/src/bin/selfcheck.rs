@@ -1,9 +1,11 @@
 //! Checks the plain implementation itself: against the documents' own numbers, a second reader and writer of sheets,
 //! also of the one sheet that a pair was, a list of the year's days, water contents by their decimals, slow rules,
-//! every choice of waterings in small seasons, the book, and a literal reading of what an opening finds. It takes some
-//! minutes; 10 percent of the rounds take seconds. Status 1 at a mismatch.
+//! every choice of waterings in small seasons, the book, and a literal reading of what an opening finds; each role's
+//! answers against role 3's, which are the answers without roles. It takes some minutes; 10 percent of the rounds take
+//! seconds. Status 1 at a mismatch.
 //!
 //!     cargo run --release --manifest-path harness/Cargo.toml --bin selfcheck [SEED [PERCENT OF THE ROUNDS]]
+use harness::asks::{by_plain, by_rule, noisy, written_by_plain, Answer, Ask, Made, Right};
 use harness::plain::book::{self, Book, Call};
 use harness::plain::{self, *};
 use harness::random::{self, sheets, small, with, Dice, Fields, Probes, Sheets, Writer};
@@ -38,38 +40,34 @@ type Range = RangeInclusive<u32>;
 /// A refusal's number and the number returned with it.
 type Refusal = (u32, usize);
 
-// ------------------------------------------------------------------ the calls on a pair of sheets
+// ------------------------------------------------------------------ the calls on a pair of sheets, by role 3
 
 fn open(s: &Sheets, area: &[u8]) -> Opened {
-    plain::open(&s.climate, &s.block, area)
+    plain::open(3, &s.climate, &s.block, area)
 }
 
 fn rain(s: &Sheets, area: &[u8], amount: u32) -> Recorded {
-    plain::rain(&s.climate, &s.block, area, amount)
-}
-
-fn irrigation(s: &Sheets, area: &[u8], amount: u32) -> Recorded {
-    plain::irrigation(&s.climate, &s.block, area, amount)
+    plain::rain(3, &s.climate, &s.block, area, amount)
 }
 
 fn close(s: &Sheets, area: &[u8]) -> Recorded {
-    plain::close(&s.climate, &s.block, area)
+    plain::close(3, &s.climate, &s.block, area)
 }
 
 fn loss(s: &Sheets, area: &[u8], ky: u32) -> Lost {
-    plain::loss(&s.climate, &s.block, area, ky)
+    plain::loss(3, &s.climate, &s.block, area, ky)
 }
 
 fn probe(s: &Sheets, area: &[u8], p: Probes) -> Probed {
-    plain::probe(&s.climate, &s.block, area, p.shallow, p.deep, p.capacity)
+    plain::probe(3, &s.climate, &s.block, area, p.shallow, p.deep, p.capacity)
 }
 
 fn plan(s: &Sheets, area: &[u8], depths: &mut [u32]) -> Planned {
-    plain::plan(&s.climate, &s.block, area, depths)
+    plain::plan(3, &s.climate, &s.block, area, depths)
 }
 
 fn table(s: &Sheets, rows: &mut [u32]) -> Tabled {
-    plain::table(&s.climate, &s.block, rows)
+    plain::table(3, &s.climate, &s.block, rows)
 }
 
 // ------------------------------------------------------------------ document 01's own numbers
@@ -650,7 +648,7 @@ fn writers(g: &mut Dice, percent: u32) -> (u64, u64) {
     let both = climates.map(|c| (Writer::Climate, c)).into_iter().chain(blocks.map(|b| (Writer::Block, b)));
     for (writer, (f, room, (number, value, bytes))) in both {
         let mut sheet = vec![0xee; room];
-        let made = writer.write(&writer.fields(&f), &mut sheet);
+        let made = writer.write(3, &writer.fields(&f), &mut sheet);
         t.same(|| format!("{writer:?} of {f:?} in {room}"), made, Written { number, value, bytes });
         t.same(|| format!("beyond {bytes} of {room}"), &sheet[bytes..], &vec![0xee; room - bytes][..]);
         if f == small(127) && number == 0 {
@@ -685,7 +683,8 @@ fn writers(g: &mut Dice, percent: u32) -> (u64, u64) {
                     }
                 };
                 seen[writer as usize][w.number as usize] += 1;
-                t.same(|| format!("{writer:?} of {f:?} in {room}"), (writer.write(&fields, &mut got), got), (w, want));
+                let answer = writer.write(3, &fields, &mut got);
+                t.same(|| format!("{writer:?} of {f:?} in {room}"), (answer, got), (w, want));
             }
         }
     }
@@ -915,27 +914,95 @@ fn brute(g: &mut Dice, percent: u32) -> (u64, u64) {
     t.report("planner by brute force")
 }
 
+// ------------------------------------------------------------------ roles
+
+/// Document 02's cases of T-09; then any pairs, areas and fields, each call by each role against what the rule makes of
+/// role 3's answer, `out` and lent buffers over noise.
+fn roles(g: &mut Dice, percent: u32) -> (u64, u64) {
+    let mut t = tally();
+    let answered = |pair: &Sheets, area: &[u8], role: u32, ask: Ask, before: &Answer| {
+        let mut answer = before.clone();
+        by_plain(pair.pair(), area, (role, ask), &mut answer.0, &mut answer.1);
+        answer
+    };
+    for case in cases::BY_ROLE {
+        let (pair, ask) = (Sheets::new(case.climate, &cases::BLOCK), Ask::from(case.call));
+        let got = answered(&pair, case.area, case.role, ask, &ask.before(7)).0;
+        let mut want = noisy(7);
+        want[..case.want.len()].copy_from_slice(case.want);
+        t.same(|| format!("{ask:?} by role {} on {:02x?}", case.role, case.area), got, want);
+    }
+    let mut seen = [[0u32; 22]; 6];
+    for round in 0..400 * percent {
+        // One pair in two is accepted, and its journal clean, torn or damaged.
+        let days = g_days(round);
+        let (pair, area) = if round % 2 == 0 {
+            let pair = sheets(&random::fields(g, days));
+            let area = random::any_journal(g, &pair, 1_300);
+            (pair, area)
+        } else {
+            (random::any_sheets(g, days), vec![0xff; g.pick(&[0, 8, 64, 8_193])])
+        };
+        let (amount, ky, probes) = (random::amount(g), random::ky(g), random::probes(g));
+        let (depths, rows) = (g.pick(&[0, 11, DAYS]), g.pick(&[0, 12, 6 * ROWS]));
+        let asks = [
+            Ask::Open, Ask::Rain(amount), Ask::Irrigation(amount), Ask::Close, Ask::Loss(ky), Ask::Probe(probes),
+            Ask::Plan(depths), Ask::Table(rows),
+        ];
+        for ask in asks {
+            let before = ask.before(g.next() as u32);
+            let third = answered(&pair, &area, 3, ask, &before);
+            for (role, seen) in random::ROLES.into_iter().zip(&mut seen) {
+                let got = answered(&pair, &area, role, ask, &before);
+                let want = by_rule(role, ask.right(), &third, &before);
+                seen[got.0[0] as usize] += 1;
+                t.same(|| format!("{ask:?} by role {role} on {area:02x?} of {pair:02x?}"), got, want);
+            }
+        }
+        let f = random::any_fields(g, days);
+        for (writer, room) in Writer::BOTH.into_iter().flat_map(|w| [(w, 15), (w, w.rooms()[0])]) {
+            let (fields, noise) = (writer.fields(&f), g.next() as u32);
+            let before: Made = (noisy(noise), vec![noise as u8; room]);
+            let written = |role: u32| {
+                let mut made = before.clone();
+                written_by_plain(writer, role, &fields, &mut made.1, &mut made.0);
+                made
+            };
+            let third = written(3);
+            for role in random::ROLES {
+                let want = by_rule(role, Right::Look, &third, &before);
+                t.same(|| format!("{writer:?} by role {role} of {f:?} in {room}"), written(role), want);
+            }
+        }
+    }
+    for (role, seen) in random::ROLES.into_iter().zip(seen) {
+        println!("role {role}, calls on sheets by answer, 0 accepted: {seen:?}");
+    }
+    t.report("roles, by the rule")
+}
+
 // ------------------------------------------------------------------ histories against the book
 
-fn asked(s: &Sheets, area: &[u8], call: Call) -> book::Answer {
+fn asked(s: &Sheets, area: &[u8], role: u32, call: Call) -> book::Answer {
+    let (climate, block) = s.pair();
     let stores = |r: Recorded| {
         assert!(r.bytes[r.count..].iter().all(|&b| b == 0) && (r.number == 0 || r.start == 0 && r.count == 0));
         let stores = (0..r.count).map(|i| (r.start + i, r.bytes[i])).collect();
         book::Answer { number: r.number, value: r.value, ledger: None, stores }
     };
     match call {
-        Call::Rain(v) => stores(rain(s, area, v)),
-        Call::Irrigation(v) => stores(irrigation(s, area, v)),
-        Call::Close => stores(close(s, area)),
-        Call::Open => open(s, area).into(),
+        Call::Rain(v) => stores(plain::rain(role, climate, block, area, v)),
+        Call::Irrigation(v) => stores(plain::irrigation(role, climate, block, area, v)),
+        Call::Close => stores(plain::close(role, climate, block, area)),
+        Call::Open => plain::open(role, climate, block, area).into(),
     }
 }
 
 fn histories(g: &mut Dice, percent: u32) -> (u64, u64) {
     let mut t = tally();
     let (mut calls, mut histories, mut cuts, mut longest, mut fullest) = (0u64, 0, 0u64, 0, 0);
-    let (mut seen, mut torn_openings, mut cut_openings) = ([0u64; 17], 0u64, 0u64);
-    while calls < 3_000 * percent as u64 {
+    let (mut seen, mut torn_openings, mut cut_openings) = ([0u64; 22], 0u64, 0u64);
+    while calls < 4_500 * percent as u64 {
         histories += 1;
         let (long, fill) = (histories % 16 == 0, histories % 160 == 0);
         let f = random::fields(g, if long { DAYS as u32 } else { 12 });
@@ -944,7 +1011,7 @@ fn histories(g: &mut Dice, percent: u32) -> (u64, u64) {
         let mut area = vec![0xff; length];
         let mut book = Book::new(sheets.season(), length);
         let calm = g.one_in(2);
-        for _ in 0..if fill { 4_000 } else if long { 1_200 } else { 40 } {
+        for _ in 0..if fill { 6_000 } else if long { 1_800 } else { 60 } {
             calls += 1;
             let torn = matches!(open(&sheets, &area).opening, Opening::Torn(..));
             let amount = random::amount(g);
@@ -956,10 +1023,10 @@ fn histories(g: &mut Dice, percent: u32) -> (u64, u64) {
                 _ if fill && !g.one_in(4) => Call::Rain(g.of(16_384, 17_000)),
                 _ => Call::Close,
             };
-            let ky = random::ky(g);
-            let answer = asked(&sheets, &area, call);
-            let what = || format!("{call:?} on {area:02x?} of {f:?}");
-            t.same(what, answer.clone(), book.answer(call));
+            let (role, ky) = (random::role(g, call), random::ky(g));
+            let answer = asked(&sheets, &area, role, call);
+            let what = || format!("{call:?} by role {role} on {area:02x?} of {f:?}");
+            t.same(what, answer.clone(), book.answer(role, call));
             seen[answer.number as usize] += 1;
             let all = answer.stores.len();
             // Every cut, then one of them is what happened.
@@ -968,39 +1035,47 @@ fn histories(g: &mut Dice, percent: u32) -> (u64, u64) {
                 for &(place, byte) in &answer.stores[..done] {
                     a[place] = byte;
                 }
-                b.call(call, done);
+                b.call(role, call, done);
                 cuts += 1;
-                torn_openings += matches!(b.open().opening, Opening::Torn(..)) as u64;
+                torn_openings += matches!(b.open(3).opening, Opening::Torn(..)) as u64;
                 cut_openings += (call == Call::Open && done > 0 && done < all) as u64;
-                t.same(|| format!("opening after {done} of {call:?}: {a:02x?} of {f:?}"), open(&sheets, &a), b.open());
-                if !long {
-                    // what each call would answer next, on the cut journal
+                t.same(|| format!("opening after {done} of {call:?}: {a:02x?} of {f:?}"), open(&sheets, &a), b.open(3));
+                if long {
+                    continue;
+                }
+                // What each call would answer next, on the cut journal, role 3 and any.
+                let (climate, block) = sheets.pair();
+                for role in [3, g.pick(&random::ROLES)] {
                     for next in [Call::Open, Call::Close, Call::Rain(amount)] {
-                        t.same(|| format!("{next:?} after {done} of {call:?}: {a:02x?}"), asked(&sheets, &a, next), b.answer(next));
+                        let what = || format!("{next:?} by role {role} after {done} of {call:?}: {a:02x?}");
+                        t.same(what, asked(&sheets, &a, role, next), b.answer(role, next));
                     }
-                    let what = || format!("loss {ky} after {done} of {call:?}: {a:02x?}");
-                    t.same(what, loss(&sheets, &a, ky), b.loss(ky));
+                    let what = || format!("loss {ky} by role {role} after {done} of {call:?}: {a:02x?}");
+                    t.same(what, plain::loss(role, climate, block, &a, ky), b.loss(role, ky));
                     let p = random::probes(g);
-                    let what = || format!("{p:?} after {done} of {call:?}: {a:02x?} of {f:?}");
-                    t.same(what, probe(&sheets, &a, p), b.probe(p.shallow, p.deep, p.capacity));
+                    let what = || format!("{p:?} by role {role} after {done} of {call:?}: {a:02x?} of {f:?}");
+                    let got = plain::probe(role, climate, block, &a, p.shallow, p.deep, p.capacity);
+                    t.same(what, got, b.probe(role, p.shallow, p.deep, p.capacity));
                 }
             }
-            let done = if g.one_in(if calm { 12 } else { 3 }) { g.of(0, all as u32) as usize } else { all };
-            for &(place, byte) in &answer.stores[..done] {
+            // Where there are no stores, the book is told of some that are done all the same.
+            let most = if all == 0 { 4 } else { all };
+            let done = if g.one_in(if calm { 12 } else { 3 }) { g.of(0, most as u32) as usize } else { most };
+            for &(place, byte) in answer.stores.iter().take(done) {
                 area[place] = byte;
             }
-            book.call(call, done);
+            book.call(role, call, done);
         }
         let l = book.ledger();
         longest = longest.max(l.day);
         fullest = fullest.max(l.place);
-        t.same(|| "last opening".into(), open(&sheets, &area), book.open());
+        t.same(|| "last opening".into(), open(&sheets, &area), book.open(3));
         t.same(|| format!("sums {l:?}"), adds_up(&l), true);
         for ky in random::KYS {
-            t.same(|| format!("last loss {ky}: {area:02x?} of {f:?}"), loss(&sheets, &area, ky), book.loss(ky));
+            t.same(|| format!("last loss {ky}: {area:02x?} of {f:?}"), loss(&sheets, &area, ky), book.loss(3, ky));
             let p = random::probes(g);
             let what = || format!("last {p:?}: {area:02x?} of {f:?}");
-            t.same(what, probe(&sheets, &area, p), book.probe(p.shallow, p.deep, p.capacity));
+            t.same(what, probe(&sheets, &area, p), book.probe(3, p.shallow, p.deep, p.capacity));
         }
     }
     println!("{histories} histories, {calls} calls, {cuts} cuts opened, {torn_openings} of them torn, {cut_openings} within an opening's stores; latest open day {longest}, longest journal {fullest}");
@@ -1032,12 +1107,12 @@ fn any_bytes(g: &mut Dice, percent: u32) -> (u64, u64) {
                 Some(3) => Call::Close,
                 _ => break rest,
             };
-            let answer = book.answer(call);
+            let answer = book.answer(3, call);
             let bytes: Vec<u8> = answer.stores.iter().map(|x| x.1).collect();
             if answer.number != 0 || !rest.starts_with(&bytes) {
                 break rest;
             }
-            book.call(call, 9);
+            book.call(3, call, 9);
             place += bytes.len();
         };
         let l = book.ledger();
@@ -1085,10 +1160,12 @@ fn any_bytes(g: &mut Dice, percent: u32) -> (u64, u64) {
     area[0] = 1;
     for done in 1..=2 {
         let mut b = Book::new(one.season(), 8);
-        b.call(Call::Rain(255), done);
-        t.same(|| "01 FF".into(), open(&one, &area), b.open());
+        b.call(3, Call::Rain(255), done);
+        t.same(|| "01 FF".into(), open(&one, &area), b.open(3));
         for call in [Call::Rain(255), Call::Close, Call::Open] {
-            t.same(|| "01 FF".into(), asked(&one, &area, call), b.answer(call));
+            for role in random::ROLES {
+                t.same(|| format!("01 FF, role {role}"), asked(&one, &area, role, call), b.answer(role, call));
+            }
         }
     }
     t.same(|| "no bytes".into(), close(&one, &[]).number, 14);
@@ -1105,8 +1182,8 @@ fn main() {
     println!("seed {seed}, {percent} percent");
     let mut g = Dice(seed);
     let parts = [daggers(), losses(), februaries(), sheet_bytes(&mut g, percent), writers(&mut g, percent),
-        probes(&mut g, percent), long_seasons(&mut g, percent), brute(&mut g, percent), histories(&mut g, percent),
-        any_bytes(&mut g, percent)];
+        probes(&mut g, percent), long_seasons(&mut g, percent), brute(&mut g, percent), roles(&mut g, percent),
+        histories(&mut g, percent), any_bytes(&mut g, percent)];
     let (compared, wrong) = parts.iter().fold((0, 0), |a, p| (a.0 + p.0, a.1 + p.1));
     println!("in all: {compared} compared, {wrong} mismatches");
     std::process::exit((wrong > 0) as i32);
