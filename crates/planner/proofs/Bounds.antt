@@ -7,12 +7,12 @@ use native.Mathlib.Omega.{arith}
 use lib.ListN.{length}
 use Rattle.season.specs.declared.Season.{Season}
 use Rattle.season.specs.Sheet.{Valid, longestSeason}
-use Rattle.season.specs.Day.{totalOn, readyOn}
+use Rattle.season.specs.Day.{cropNeed, totalOn, readyOn}
 use Rattle.season.proofs.Laws.{part-le}
 use Rattle.season.proofs.Bounds.{total-le, need-le}
 use Rattle.planner.specs.Choices.{Outlook, plannedDay, Fills, Best}
 use Rattle.planner.specs.Plan.{depths, plan}
-use Rattle.planner.specs.Outlook.{outlook, daysLeft}
+use Rattle.planner.specs.Outlook.{daysLeft}
 use Rattle.planner.specs.Answer.{sum}
 use Rattle.planner.proofs.Walks.{walks-right}
 
@@ -37,12 +37,13 @@ sum-filled o c d D (suc x ∷ xs) n f =
 pub plan-made : (o : Outlook) (k d D : ℕ) (xs : List ℕ) → plan o k d D ≡ depths xs → Best o k d D xs
 plan-made o k d D xs e = rw e at (walks-right o k d D)
 
--- the net total of a season's plan
-pub net-at-most : (s : Season) (today waiting D : ℕ) (xs : List ℕ) → Valid s → 1 ≤ today → Best (outlook s today waiting) (daysLeft s today) today D xs → sum xs ≤ D + 3000 * longestSeason
-net-at-most s today waiting D xs v l b =
+-- the net total of a season's plan, on whichever of its turn days
+pub net-at-most : (s : Season) (o : Outlook) (today D : ℕ) (xs : List ℕ) → Valid s → 1 ≤ today → o .need ≡ cropNeed s → Best o (daysLeft s today) today D xs
+    → sum xs ≤ D + 3000 * longestSeason
+net-at-most s o today D xs v l e b =
     let n = b .size in
     omega (
       arith,
       v .year,
-      sum-filled (outlook s today waiting) 3000 today D xs (λ i p q. need-le s i v (record { from = omega arith; to = omega (arith, n) })) (b .fills),
+      sum-filled o 3000 today D xs (λ i p q. rw e (need-le s i v (record { from = omega arith; to = omega (arith, n) }))) (b .fills),
     )

@@ -24,6 +24,7 @@ use Rattle.planner.specs.Claims.{MadeRight, Occurs, Claims}
 use Rattle.planner.proofs.Days.{Right}
 use Rattle.planner.proofs.Walks.{walks-right}
 use Rattle.planner.proofs.Bounds.{plan-made, net-at-most}
+use Rattle.planner.proofs.Bank.{bank-limit, bank-alone}
 
 plan-refused : (o : Outlook) (k d D f : ℕ) → plan o k d D ≡ refused f → FirstLost o k d D f
 plan-refused o k d D f e = rw e at (walks-right o k d D)
@@ -141,7 +142,7 @@ module _ (s : Season) (today D waiting : ℕ) (l : List ℕ) where
       → answer s today D waiting l ≡ (Made days net gross, m) → (net .0 ≤ 120000 + 3000 * longestSeason) × (gross .0 ≤ 100 * (120000 + 3000 * longestSeason))
   totals-fit days net gross m v d h e =
       let r = answer-made-right days net gross m e in
-      let n : net .0 ≤ 120000 + 3000 * longestSeason = rw (r .net-total) (omega (arith, net-at-most s today waiting D (take (daysLeft s today) m) v (d .from) (r .best))) in
+      let n : net .0 ≤ 120000 + 3000 * longestSeason = rw (r .net-total) (omega (arith, net-at-most s (outlook s today waiting) today D (take (daysLeft s today) m) v (d .from) refl (r .best))) in
       let g : (net .0 * 100 + (s .efficiency - 1)) / s .efficiency < 100 * (120000 + 3000 * longestSeason) + 1
       = div-lt-iff-lt-mul {k = s .efficiency} (omega (arith, v .ranges .efficiency .low≤)) .1 (omega (arith, v .ranges .efficiency .low≤)) in
       (n, rw (r .gross-total) (omega arith))
@@ -172,6 +173,8 @@ claims = record {
   answer-refused-keeps = λ s today D waiting number value l m. answer-refused-keeps s today D waiting l number value m;
   answer-made-right = λ s today D waiting days net gross l m. answer-made-right s today D waiting l days net gross m;
   totals-fit = λ s today D waiting days net gross l m. totals-fit s today D waiting l days net gross m;
+  bank-limit = bank-limit;
+  bank-alone = bank-alone;
   numbers-one-to-one = numbers-one-to-one;
   answer-occurs = answer-occurs;
 }

@@ -2,6 +2,7 @@ pub mod Lists
 pub mod Days
 pub mod Walks
 pub mod Bounds
+pub mod Bank
 pub mod Passes
 pub mod Carry
 pub mod Loops

@@ -16,7 +16,8 @@ use Rattle.season.proofs.Days.{number-is}
 use Rattle.planner.specs.declared.DayOutlook.{DayOutlook}
 use Rattle.planner.specs.declared.Track.{Track}
 use Rattle.planner.specs.Plan.{depths, refused, plan}
-use Rattle.planner.specs.Outlook.{outlook, outlookOn, daysLeft}
+use Rattle.planner.specs.Outlook.{outlookOn, daysLeft}
+use Rattle.planner.specs.Bank.{outlookLeft}
 use Rattle.planner.specs.Carried.{trackFrom, passDay}
 use Rattle.planner.proofs.Bounds.{ready-at-most}
 use Rattle.planner.proofs.Carry.{Coming, coming-start, rainBefore}
@@ -25,21 +26,21 @@ use Rattle.planner.proofs.Walks.{endsAt}
 use Rattle.planner.proofs.Passes.{Passing, passing-start, passing-day, passing-holds, passing-lost, passing-turn, filledNow, passing-fills, passing-end}
 
 -- The pass from day `today`, which starts at D, has come to day d: to day t, or past it.
-pub record Drawing (s : Season) (today waiting D last : ℕ) (t : SeasonDay) (before week d : ℕ) (k : Track) (l : List ℕ) : Type 0 where
+pub record Drawing (s : Season) (today waiting : ℕ) (used : List ℕ) (limit D last : ℕ) (t : SeasonDay) (before week d : ℕ) (k : Track) (l : List ℕ) : Type 0 where
   pub coming : Coming s last t before week
   pub high : d ≤ suc (t .number)
   pub small : k .depletion ≤ 120000
-  pub passing : Passing today (daysLeft s d) d (draft (outlook s today waiting) (daysLeft s d) d) (plan (outlook s today waiting) (daysLeft s today) today D) k l
+  pub passing : Passing today (daysLeft s d) d (draft (outlookLeft s today waiting used limit) (daysLeft s d) d) (plan (outlookLeft s today waiting used limit) (daysLeft s today) today D) k l
 
-pub drawing-start : {s : Season} {today D last before : ℕ} {t : SeasonDay} {l : List ℕ} (waiting : ℕ) → Valid s → DayOf s today → D ≤ 120000 → l ≡ replicate (daysLeft s today) 0
+pub drawing-start : {s : Season} {today D last before : ℕ} {t : SeasonDay} {l : List ℕ} (waiting : ℕ) (used : List ℕ) (limit : ℕ) → Valid s → DayOf s today → D ≤ 120000 → l ≡ replicate (daysLeft s today) 0
     → last ≡ seasonDays s → t ≡ dayOf s today → before ≡ rainBefore t
-    → Drawing s today waiting D last t before ((today - 1) % 7) (t .number) (trackFrom today D) l
-drawing-start {s} {today} {D} waiting v d h z e i b =
+    → Drawing s today waiting used limit D last t before ((today - 1) % 7) (t .number) (trackFrom today D) l
+drawing-start {s} {today} {D} waiting used limit v d h z e i b =
     record {
       coming = coming-start v d e i b;
       high = omega arith;
       small = h;
-      passing = rw (number-is s _ today i) (passing-start (outlook s today waiting) (daysLeft s today) today D z);
+      passing = rw (number-is s _ today i) (passing-start (outlookLeft s today waiting used limit) (daysLeft s today) today D z);
     }
 
 -- Day i has its place among the depths.
@@ -55,7 +56,7 @@ Ended today ready n l m l′ =
 length-zeros : {n : ℕ} {z : List ℕ} → z ≡ replicate n 0 → length z ≡ n
 length-zeros {n} e = rw e (length-replicate n 0)
 
-module _ {s : Season} {today waiting D last : ℕ} {t : SeasonDay} {before week d : ℕ} {k : Track} {l : List ℕ} (w : Drawing s today waiting D last t before week d k l) where
+module _ {s : Season} {today waiting : ℕ} {used : List ℕ} {limit D last : ℕ} {t : SeasonDay} {before week d : ℕ} {k : Track} {l : List ℕ} (w : Drawing s today waiting used limit D last t before week d k l) where
   sized : length l ≡ daysLeft s today
   sized =
       omega (
@@ -68,26 +69,29 @@ module _ {s : Season} {today waiting D last : ℕ} {t : SeasonDay} {before week 
         w .coming .day .of .to,
       )
 
+  pub drawing-from : today ≤ d
+  drawing-from = omega (arith, w .passing .size)
+
   pub drawing-length : {z : List ℕ} → z ≡ replicate (daysLeft s today) 0 → length l ≡ length z
   drawing-length e = sized ∙ sym (length-zeros e)
 
 -- Day t is passed: it is the last, or the day after follows.
-module _ {s : Season} {today waiting D last : ℕ} {t : SeasonDay} {before week : ℕ} {k : Track} {l : List ℕ}
-    (w : Drawing s today waiting D last t before week (suc (t .number)) k l) where
-  pub drawing-whole : last ≤ t .number → depths l ≡ plan (outlook s today waiting) (daysLeft s today) today D
+module _ {s : Season} {today waiting : ℕ} {used : List ℕ} {limit D last : ℕ} {t : SeasonDay} {before week : ℕ} {k : Track} {l : List ℕ}
+    (w : Drawing s today waiting used limit D last t before week (suc (t .number)) k l) where
+  pub drawing-whole : last ≤ t .number → depths l ≡ plan (outlookLeft s today waiting used limit) (daysLeft s today) today D
   drawing-whole h =
       let z : daysLeft s (suc (t .number)) ≡ 0 = omega (arith, w .coming .season) in
-      passing-end (outlook s today waiting) (rw z at (w .passing))
+      passing-end (outlookLeft s today waiting used limit) (rw z at (w .passing))
 
   pub drawing-next : {next : SeasonDay} {after week′ : ℕ} → next ≡ dayOf s (t .number + 1) → Coming s last next after week′
-      → Drawing s today waiting D last next after week′ (next .number) k l
+      → Drawing s today waiting used limit D last next after week′ (next .number) k l
   drawing-next {next} e c =
       let i : next .number ≡ suc (t .number) = number-is s _ (t .number + 1) e ∙ add-one (t .number) in
       record { coming = c; high = omega arith; small = w .small; passing = rw i (w .passing) }
 
 -- Day t is passed with no watering, and ends as the track says.
-module _ {s : Season} {today waiting D last : ℕ} {t : SeasonDay} {before week : ℕ} {k : Track} {l : List ℕ} {ahead : DayOutlook}
-    (w : Drawing s today waiting D last t before week (t .number) k l) (r : ahead ≡ outlookOn (outlook s today waiting) (t .number)) where
+module _ {s : Season} {today waiting : ℕ} {used : List ℕ} {limit D last : ℕ} {t : SeasonDay} {before week : ℕ} {k : Track} {l : List ℕ} {ahead : DayOutlook}
+    (w : Drawing s today waiting used limit D last t before week (t .number) k l) (r : ahead ≡ outlookOn (outlookLeft s today waiting used limit) (t .number)) where
   pub drawing-fits : (k .filled ≤ k .depletion) × (k .depletion + ahead .need < 4294967296)
   drawing-fits =
       let c : ahead .need ≡ cropNeed s (t .number) = ap (λ k. k .need) r in
@@ -96,28 +100,28 @@ module _ {s : Season} {today waiting D last : ℕ} {t : SeasonDay} {before week 
   module _ {n : Track} (q : n ≡ passDay k ahead (t .number)) where
     -- the days after t
     abbrev rest : ℕ → Draft
-    rest = draft (outlook s today waiting) (daysLeft s (suc (t .number))) (suc (t .number))
+    rest = draft (outlookLeft s today waiting used limit) (daysLeft s (suc (t .number))) (suc (t .number))
 
-    ended : Passing today (daysLeft s (suc (t .number))) (suc (t .number)) (endsAt (outlook s today waiting) (t .number) rest)
-        (plan (outlook s today waiting) (daysLeft s today) today D) n l
+    ended : Passing today (daysLeft s (suc (t .number))) (suc (t .number)) (endsAt (outlookLeft s today waiting used limit) (t .number) rest)
+        (plan (outlookLeft s today waiting used limit) (daysLeft s today) today D) n l
     ended =
         let z : daysLeft s (t .number) ≡ suc (daysLeft s (suc (t .number))) = omega (arith, w .coming .day .of .to) in
-        passing-day (outlook s today waiting) (daysLeft s (suc (t .number))) (rw z at (w .passing)) (rw r at q)
+        passing-day (outlookLeft s today waiting used limit) (daysLeft s (suc (t .number))) (rw z at (w .passing)) (rw r at q)
 
-    ready : ahead .ready ≡ outlook s today waiting .ready (t .number)
+    ready : ahead .ready ≡ outlookLeft s today waiting used limit .ready (t .number)
     ready = ap (λ k. k .ready) r
 
-    pub drawing-lost : ahead .ready < n .filled → refused (t .number) ≡ plan (outlook s today waiting) (daysLeft s today) today D
-    drawing-lost h = passing-lost (outlook s today waiting) (t .number) rest ended (rw ready at h)
+    pub drawing-lost : ahead .ready < n .filled → refused (t .number) ≡ plan (outlookLeft s today waiting used limit) (daysLeft s today) today D
+    drawing-lost h = passing-lost (outlookLeft s today waiting used limit) (t .number) rest ended (rw ready at h)
 
     pub drawing-place : ahead .ready < n .depletion → n .filled ≤ ahead .ready → Placed today (n .turn) l
     drawing-place h g =
-        let f = passing-turn (outlook s today waiting) (t .number) rest ended (rw ready at h) (rw ready at g) in
+        let f = passing-turn (outlookLeft s today waiting used limit) (t .number) rest ended (rw ready at h) (rw ready at g) in
         let last = w .coming .day .of .to in
         (f .0, omega (arith, f .1, last, w .coming .valid .year), omega (arith, f .0, f .1, sized w, last))
 
     -- It holds, or it holds with the turn day filled.
-    pub drawing-passed : {m : Track} {l′ : List ℕ} → Ended today (ahead .ready) n l m l′ → Drawing s today waiting D last t before week (suc (t .number)) m l′
+    pub drawing-passed : {m : Track} {l′ : List ℕ} → Ended today (ahead .ready) n l m l′ → Drawing s today waiting used limit D last t before week (suc (t .number)) m l′
     drawing-passed {m} {l′} c =
         let f = ended-next c in
         record { coming = w .coming; high = omega arith; small = f .0; passing = f .1 }
@@ -126,8 +130,8 @@ module _ {s : Season} {today waiting D last : ℕ} {t : SeasonDay} {before week 
         few = ready-at-most s (t .number) (w .coming .valid)
 
         ended-next : Ended today (ahead .ready) n l m l′
-            → (m .depletion ≤ 120000) × Passing today (daysLeft s (suc (t .number))) (suc (t .number)) rest (plan (outlook s today waiting) (daysLeft s today) today D) m l′
+            → (m .depletion ≤ 120000) × Passing today (daysLeft s (suc (t .number))) (suc (t .number)) rest (plan (outlookLeft s today waiting used limit) (daysLeft s today) today D) m l′
         ended-next (inl p) =
-            rw (p .2, p .3) (omega (arith, few, ready, p .1), passing-fills (outlook s today waiting) (t .number) rest ended (rw ready at (p .0)) (rw ready at (p .1)))
+            rw (p .2, p .3) (omega (arith, few, ready, p .1), passing-fills (outlookLeft s today waiting used limit) (t .number) rest ended (rw ready at (p .0)) (rw ready at (p .1)))
         ended-next (inr p) =
-            rw (p .1, p .2) (omega (arith, few, ready, p .0), passing-holds (outlook s today waiting) (t .number) rest ended (rw ready at (p .0)))
+            rw (p .1, p .2) (omega (arith, few, ready, p .0), passing-holds (outlookLeft s today waiting used limit) (t .number) rest ended (rw ready at (p .0)))

@@ -2,7 +2,7 @@
 -- proofs/Claims.antt, has a proof of each field.
 use mathlib.Core.Path.{_≡_}
 use mathlib.Core.Logic.{_↔_, _⊎_}
-use mathlib.Core.List.{List}
+use mathlib.Core.List.{List, [], map}
 use Prim.Native.Nat.{ℕ, _+_, _*_, _≤_, _<_}
 use lib.ListN.{length, take, drop}
 use Rattle.season.specs.declared.Season.{Season}
@@ -16,6 +16,7 @@ use Rattle.planner.specs.Choices.{Outlook, irrigated, NoMore, Holds, Bes
 use Rattle.planner.specs.Plan.{depths, refused, plan}
 use Rattle.planner.specs.Outlook.{outlook, daysLeft}
 use Rattle.planner.specs.Answer.{sum, numbersOf, answer}
+use Rattle.planner.specs.Bank.{watering, Ask, given, planAlone, bankPlans}
 
 -- What a plan made for a season and its ledger leaves in the buffer, l at first and m in the end, and answers.
 pub record MadeRight (s : Season) (today D waiting : ℕ) (l m : List ℕ) (days net gross : ℕ) : Type 0 where
@@ -57,6 +58,9 @@ pub record Claims : Type 0 where
   -- The totals fit a u32: at most the depletion at first and 3,000 a day, and a hundred times that.
   pub totals-fit : (s : Season) (today D waiting days : ℕ) (net : Net) (gross : Gross) (l m : List ℕ) → Valid s → DayOf s today → D ≤ 120000
       → answer s today D waiting l ≡ (Made days net gross, m) → (net .0 ≤ 120000 + 3000 * longestSeason) × (gross .0 ≤ 100 * (120000 + 3000 * longestSeason))
+  -- Blocks on one pump (document 02, T-10): on no day do more than m of them water; and at most m blocks plan each as if alone.
+  pub bank-limit : (m d : ℕ) (asks : List Ask) (j : ℕ) → watering (map given (bankPlans m d [] asks)) j ≤ m
+  pub bank-alone : (m d : ℕ) (asks : List Ask) → length asks ≤ m → bankPlans m d [] asks ≡ map (planAlone d) asks
   -- Different answers have different numbers, and the answers given are those that can occur.
   pub numbers-one-to-one : (a b : Planned) → numbersOf a ≡ numbersOf b → a ≡ b
   pub answer-occurs : (s : Season) (today D waiting : ℕ) (l : List ℕ) → Occurs (answer s today D waiting l .0)

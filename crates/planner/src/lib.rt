@@ -4,19 +4,20 @@ use season::Net;
 use season::Season;
 use season::SeasonDay;
 ghost use mathlib.Core.Path.{_≡_};
-ghost use mathlib.Core.Bool.{cond};
+ghost use mathlib.Core.Bool.{cond, _&&_};
 ghost use mathlib.Core.List.{_++_};
 ghost use Prim.Native.Nat.{_+_, _-_, _%_, _≤_, _<_};
-ghost use lib.ListN.{length, drop, replicate};
-ghost use lib.Dec.{eqb};
+ghost use lib.ListN.{length, drop, getD, replicate};
+ghost use lib.Dec.{eqb, ltb};
 ghost use Rattle.season.specs.Sheet.{Valid, DayOf, longestSeason};
 ghost use Rattle.season.specs.Day.{rainOn};
 ghost use Rattle.season.specs.Carried.{OnDay};
 ghost use Rattle.planner.specs.Choices.{irrigated};
 ghost use Rattle.planner.specs.Plan.{plan};
-ghost use Rattle.planner.specs.Outlook.{outlook, outlookOn, daysLeft};
+ghost use Rattle.planner.specs.Outlook.{outlookOn, daysLeft};
 ghost use Rattle.planner.specs.Carried.{turnIn, trackFrom, passDay};
 ghost use Rattle.planner.specs.Answer.{sum, netOf, settles, answerTo, answer};
+ghost use Rattle.planner.specs.Bank.{outlookLeft, answerLeft};
 
 // A plan is made: how many depths are above 0, and the totals. Or it is refused: document 01's number, and the number returned with it.
 pub enum Planned {
@@ -56,20 +57,49 @@ fn water_on(today: u32, waiting: u32, day: u32, rain: u32) -> u32
     if day == today { waiting } else { rain }
 }
 
-fn outlook_on(s: Season, today: u32, waiting: u32, t: SeasonDay, rain: u32, week: u32) -> DayOutlook
+// How many valves are used on the day at a place from the open day on: past the counts none.
+fn used_at(used: &[u32], place: usize) -> u32
+    ensures { λ r. ⌜ r ≡ getD (now (used .entry)) place 0 ⌝ }
+{
+    if place < used.len() { used[place] } else { 0 }
+}
+
+// Whether a turn day is left: fewer than the limit are used. Only a turn day's count is read.
+fn turn_left(turns: u32, week: u32, used: &[u32], limit: u32, place: usize) -> bool
+    requires { ⌜ week < 7 ⌝ }
+    ensures { λ r. ⌜ r ≡ (turnIn turns week && ltb (getD (now (used .entry)) place 0) limit) ⌝ }
+{
+    if turn_in(turns, week) {
+        return used_at(used, place) < limit;
+    }
+    false
+}
+
+fn outlook_on(
+    s: Season,
+    today: u32,
+    waiting: u32,
+    t: SeasonDay,
+    rain: u32,
+    week: u32,
+    used: &[u32],
+    limit: u32,
+) -> DayOutlook
     requires { ⌜ Valid s ⌝ }
     requires { ⌜ OnDay s t ⌝ }
+    requires { ⌜ today ≤ t .number ⌝ }
     requires { ⌜ rain ≡ rainOn s (t .number) ⌝ }
     requires { ⌜ week ≡ (t .number - 1) % 7 ⌝ }
-    ensures { λ r. ⌜ r ≡ outlookOn (outlook s today waiting) (t .number) ⌝ }
+    ensures { λ r. ⌜ r ≡ outlookOn (outlookLeft s today waiting (now (used .entry)) limit) (t .number) ⌝ }
 {
+    let place = (t.number - today) as usize;
     let need = season::crop_need(s, t);
     let ready = season::ready_on(s, t);
     DayOutlook {
         water: water_on(today, waiting, t.number, rain),
         need: need,
         ready: ready,
-        turn: turn_in(s.turns, week),
+        turn: turn_left(s.turns, week, used, limit, place),
     }
 }
 
@@ -145,12 +175,20 @@ fn pass_day(track: Track, ahead: DayOutlook, day: u32) -> Track
 // The depths of the days from `today` on, where zeros stand at first, in one pass. Where a day fails, the latest turn day since the last
 // watering is filled, and the pass goes on as if it had been all along; where the day fails then too, no choice holds it. The month's
 // planned rain and the day of the week are carried along. The season ends where a month or a stage does, and only there is its end tested.
-fn draw_depths(s: Season, today: u32, waiting: u32, start: u32, depths: &mut [u32]) -> Drawn
+fn draw_depths(
+    s: Season,
+    today: u32,
+    waiting: u32,
+    start: u32,
+    used: &[u32],
+    limit: u32,
+    depths: &mut [u32],
+) -> Drawn
     requires { ⌜ Valid s ⌝ }
     requires { ⌜ DayOf s today ⌝ }
     requires { ⌜ start ≤ 120000 ⌝ }
     requires { ⌜ now depths ≡ replicate (daysLeft s today) 0 ⌝ }
-    ensures { λ r. ⌜ settles r (now (depths .exit)) ≡ plan (outlook s today waiting) (daysLeft s today) today start ⌝ }
+    ensures { λ r. ⌜ settles r (now (depths .exit)) ≡ plan (outlookLeft s today waiting (now (used .entry)) limit) (daysLeft s today) today start ⌝ }
 {
     let last = season::season_days(s);
     // A struct that a call writes stays in memory: t is a copy.
@@ -161,7 +199,7 @@ fn draw_depths(s: Season, today: u32, waiting: u32, start: u32, depths: &mut [u3
     let mut track = track_from(today, start);
     loop {
         let to = season::rain_to(s, t, t.day);
-        let ahead = outlook_on(s, today, waiting, t, to - before, week);
+        let ahead = outlook_on(s, today, waiting, t, to - before, week, used, limit);
         track = pass_day(track, ahead, t.number);
         if ahead.ready < track.depletion {
             if ahead.ready < track.filled {
@@ -237,6 +275,8 @@ fn answer_from(
     today: u32,
     depletion: u32,
     waiting: u32,
+    used: &[u32],
+    limit: u32,
     draft: &mut [u32],
     depths: &mut [u32],
 ) -> Planned
@@ -245,9 +285,9 @@ fn answer_from(
     requires { ⌜ depletion ≤ 120000 ⌝ }
     requires { ⌜ now draft ≡ replicate (daysLeft s today) 0 ⌝ }
     requires { ⌜ daysLeft s today ≤ length (now depths) ⌝ }
-    ensures { λ r. ⌜ (r, now (depths .exit)) ≡ answerTo (s .efficiency) (now (depths .entry)) (plan (outlook s today waiting) (daysLeft s today) today depletion) ⌝ }
+    ensures { λ r. ⌜ (r, now (depths .exit)) ≡ answerTo (s .efficiency) (now (depths .entry)) (plan (outlookLeft s today waiting (now (used .entry)) limit) (daysLeft s today) today depletion) ⌝ }
 {
-    let drawn = draw_depths(s, today, waiting, depletion, draft);
+    let drawn = draw_depths(s, today, waiting, depletion, used, limit, draft);
     if let Drawn::Lost(day) = drawn {
         return Planned::Refused(16, day as usize);
     }
@@ -258,6 +298,39 @@ fn answer_from(
     Planned::Made(days, net, gross)
 }
 
+// The plan on the turn days that are left (document 02, T-10): a day counts where fewer than `limit` of the valves are used. `used` has their numbers from
+// the open day on; past its end none are.
+pub fn plan_left(
+    s: Season,
+    today: u32,
+    depletion: u32,
+    waiting: u32,
+    used: &[u32],
+    limit: u32,
+    depths: &mut [u32],
+) -> Planned
+    requires { ⌜ Valid s ⌝ }
+    requires { ⌜ DayOf s today ⌝ }
+    requires { ⌜ depletion ≤ 120000 ⌝ }
+    ensures { λ r. ⌜ (r, now (depths .exit)) ≡ answerLeft s today depletion waiting (now (used .entry)) limit (now (depths .entry)) ⌝ }
+{
+    let count = (season::season_days(s) + 1 - today) as usize;
+    if depths.len() < count {
+        return Planned::Refused(15, 0);
+    }
+    let mut draft = [0u32; season::LONGEST_SEASON];
+    answer_from(
+        s,
+        today,
+        depletion,
+        waiting,
+        used,
+        limit,
+        &mut draft[..count],
+        depths,
+    )
+}
+
 // The plan from the open day to the season's end, starting at the ledger's depletion, with the water that waits on the open day.
 pub fn make_plan(s: Season, today: u32, depletion: u32, waiting: u32, depths: &mut [u32]) -> Planned
     requires { ⌜ Valid s ⌝ }
@@ -265,10 +338,6 @@ pub fn make_plan(s: Season, today: u32, depletion: u32, waiting: u32, depths: &m
     requires { ⌜ depletion ≤ 120000 ⌝ }
     ensures { λ r. ⌜ (r, now (depths .exit)) ≡ answer s today depletion waiting (now (depths .entry)) ⌝ }
 {
-    let count = (season::season_days(s) + 1 - today) as usize;
-    if depths.len() < count {
-        return Planned::Refused(15, 0);
-    }
-    let mut draft = [0u32; season::LONGEST_SEASON];
-    answer_from(s, today, depletion, waiting, &mut draft[..count], depths)
+    let none = [0u32; 1];
+    plan_left(s, today, depletion, waiting, &none[..0], 1, depths)
 }

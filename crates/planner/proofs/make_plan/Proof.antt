@@ -1,50 +1,16 @@
--- The local array's first numbers are the zeros that `answer_from` starts from.
-use mathlib.Core.Path.{ap}
-use Prim.Native.Nat.{_+_, _-_}
-use native.Mathlib.Omega.{arith}
+-- With no valve used, and a limit of one, the turn days left are all of them.
+use mathlib.Core.Path.{_∙_}
 use denote.Ref.{now}
-use Rattle.season.specs.Sheet.{longestSeason}
-use Rattle.planner.proofs.Answers.{answer-short, answer-enough, draft-length, draft-zeros}
+use Rattle.planner.proofs.Answers.{answer-all}
 use borrow.Author.Needs.{needs}
 use Rattle.planner.proofs.make_plan.Statement.{statement}
 use Rattle.planner.proofs.make_plan.Tie as tie
 
 returns : tie.Need-returns
 returns c =
-    let at-season-days = c .before in
-    let start = at-season-days .before .before in
-    answer-short (start .args .s) (start .args .today) (start .args .waiting) (start .args .depletion) (now (start .args .depths)) (rw (at-season-days .season-days .ensures) at (c .if1 .taken))
-
-slice-aggregate-answer-from : tie.Need-slice-aggregate-answer-from
-slice-aggregate-answer-from c = draft-length longestSeason _ (omega (arith, c .before .before .season-days .ensures))
-
-answer-from-requires : tie.Need-answer-from-requires
-answer-from-requires c κs =
-    let at-if1 = c .before .before in
-    let at-season-days = at-if1 .before in
-    let start = at-season-days .before .before in
-    (start .pre .0, (start .pre .1 .0, (start .pre .1 .1, (draft-zeros longestSeason _ _ (ap (λ n. n + 1 - start .args .today) (at-season-days .season-days .ensures)) (omega arith), omega (arith, at-if1 .if1 .left, at-season-days .season-days .ensures)))))
-
-returns-2 : tie.Need-returns-2
-returns-2 c =
-    let at-answer-from = c .before .before .before in
-    let at-if1 = at-answer-from .before .before .before in
-    let at-season-days = at-if1 .before in
-    let start = at-season-days .before .before in
-    let days = at-season-days .season-days .ensures in
-    answer-enough (start .args .s) (start .args .today) (start .args .waiting) (start .args .depletion) (now (start .args .depths)) (omega (arith, at-if1 .if1 .left)) (at-answer-from .answer-from .ensures)
+    let at-plan-left = c .before .before in
+    let start = at-plan-left .before .before .before .before in
+    at-plan-left .plan-left .ensures ∙ answer-all (start .args .s) (start .args .today) (start .args .depletion) (start .args .waiting) (now (start .args .depths))
 
 pub make-plan-spec : {M : Type 1} → statement M
-make-plan-spec =
-    tie.close
-    (tie.spec
-    (λ c κs. search needs)
-    (λ c. search needs)
-    (λ c. search needs)
-    (λ c. search needs)
-    returns
-    (λ c. search needs)
-    slice-aggregate-answer-from
-    answer-from-requires
-    (λ c. search needs)
-    returns-2)
+make-plan-spec = tie.close (tie.spec (λ c. search needs) (λ c. search needs) (λ c κs. search needs) (λ c. search needs) returns)
