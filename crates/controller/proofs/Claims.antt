@@ -71,6 +71,8 @@ use Rattle.controller.specs.Cases.{cases, leapCases, probeCases, roleCas
 use Rattle.controller.specs.Claims.{Claims}
 use Rattle.controller.proofs.Sheets.{on-sheets, as-on-sheet}
 use Rattle.controller.proofs.Roles.{same-for-roles, look-by, enter-by, look-verdict, enter-verdict, either-way, role-1-keeps}
+use Rattle.bank.proofs.Claims as banks
+use Rattle.controller.proofs.Banks.{bank-refuses, bank-unaltered, bank-right, bank-alone}
 use Rattle.controller.proofs.Demands.{opens, plan-right, demand-3}
 use Rattle.controller.proofs.Refusing.{sheets-verdict, looks-verdict, numbers-refused, planVerdict, tableVerdict, open-verdict, entry-verdict, loss-verdict, plan-verdict, probe-verdict, table-verdict, entry-refused, plan-refused-keeps, table-refused-keeps}
 
@@ -293,6 +295,7 @@ claims = record {
       looks-verdict climate block role planVerdict (λ number value. (planned.Refused number value, out)) (λ s. plannedOn s out (opening s area)) (planLines area (length out)) numbers-refused (λ s o. plan-verdict s area out);
   probe-refuses = λ role climate block area shallow deep f.
       looks-verdict climate block role (λ (r : Probed). verdictOf (probedNumbers r)) probed.Refused (λ s. probedOn s (readingOf shallow deep) f (opening s area)) (probeLines area shallow deep f) numbers-refused (λ s o. probe-verdict s area shallow deep f);
+  bank-refuses = bank-refuses;
   table-refuses = λ role climate block out.
       looks-verdict climate block role tableVerdict (λ number value. (table.Refused number value, out)) (λ s. tabled s out) (tableLines (length out)) numbers-refused (λ s o. table-verdict s out);
   climate-write-refuses = λ role c out. write-refuses-by role out (climateWritten c out) (writeLines (climateLines c) (written c) (length out)) (sheets.claims .climate-write-refuses c out);
@@ -300,12 +303,16 @@ claims = record {
   open-no-stores = open-no-stores-by;
   entry-no-stores = entry-no-stores-by;
   plan-unaltered = plan-unaltered-by;
+  bank-unaltered = bank-unaltered;
   table-unaltered = table-unaltered-by;
   climate-write-unaltered = λ role c out number value. write-unaltered-by role out (climateWritten c out) number value (sheets.claims .climate-write-unaltered c out number value);
   block-write-unaltered = λ role vs out number value. write-unaltered-by role out (blockWritten vs out) number value (sheets.claims .block-write-unaltered vs out number value);
   clean-no-stores = clean-no-stores;
   torn-stores = torn-stores;
   plan-right = λ climate block area out l v o day room. plan-right climate block v area out l (sym (opens climate block v area) ∙ o) day room;
+  bank-right = λ role climate blocks limit lengths sheets areas depths answers answers′ depths′ size is. bank-right role climate blocks limit lengths sheets areas depths answers is size;
+  bank-alone = λ role climate blocks limit lengths sheets areas depths answers answers′ depths′ size is. bank-alone role climate blocks limit lengths sheets areas depths answers is size;
+  banking = banks.claims;
   planning = plans.claims;
   probing = probings.claims;
   sheets = sheets.claims;

@@ -4,4 +4,5 @@ pub mod Plans
 pub mod Probing
 pub mod Demands
 pub mod Refusing
+pub mod Banks
 pub mod Claims

@@ -138,7 +138,7 @@ areaLines size o = (ltb 8192 size, 8, 0) ∷ (damaged o .0, 9, damaged o .1) ∷
 
 module _ (s : Season) (area : List ℕ) where
   -- A call whose verdict is 8, 9, then what `lines` give of the opening.
-  by-opening : (verdictIn : Opening → Verdict) (lines : Opening → List Line)
+  pub by-opening : (verdictIn : Opening → Verdict) (lines : Opening → List Line)
       → ((number place : ℕ) → 1 ≤ number → verdictIn (found.Refused number place) ≡ Refused number place)
       → ((l : Ledger) → verdictIn (found.Clean l) ≡ firstOf Accepted (lines (found.Clean l)))
       → ((l : Ledger) → verdictIn (found.Torn l (l .place)) ≡ firstOf Accepted (lines (found.Torn l (l .place))))

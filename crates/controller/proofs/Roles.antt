@@ -57,6 +57,7 @@ same-for-roles = record {
   loses = λ role low high climate block area ky. role-accepted (lookLines role) _ _ (may-look role low high);
   plans = λ role low high climate block area out. role-accepted (lookLines role) _ _ (may-look role low high);
   probes = λ role low high climate block area shallow deep f. role-accepted (lookLines role) _ _ (may-look role low high);
+  banks = λ role low high climate blocks limit lengths sheets areas depths answers. role-accepted (lookLines role) _ _ (may-look role low high);
   tables = λ role low high climate block out. role-accepted (lookLines role) _ _ (may-look role low high);
   writes-climate = λ role low high c out. role-accepted (lookLines role) _ _ (may-look role low high);
   writes-block = λ role low high vs out. role-accepted (lookLines role) _ _ (may-look role low high);

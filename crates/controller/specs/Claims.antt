@@ -2,7 +2,7 @@
 use mathlib.Core.Path.{_≡_}
 use mathlib.Core.Logic.{_↔_}
 use mathlib.Core.List.{List, [], _++_, map}
-use Prim.Native.Nat.{ℕ, _≤_}
+use Prim.Native.Nat.{ℕ, _≤_, _<_}
 use lib.ListN.{length, drop}
 use Rattle.verdict.specs.declared.Verdict.the-variants.{Accepted, Refused}
 use Rattle.verdict.specs.Refusals.{firstOf, verdictOf}
@@ -30,13 +30,17 @@ use Rattle.journal.specs.Claims.{RecordedOccurs, OpenedOccurs}
 use Rattle.planner.specs.Outlook.{daysLeft}
 use Rattle.planner.specs.Answer as planned
 use Rattle.planner.specs.Claims as planner
+use Rattle.bank.specs.Blocks.{partOf}
+use Rattle.bank.specs.Banks.{five}
+use Rattle.bank.specs.Claims as bank
+use Rattle.bank.specs.Claims.{numbersAt, BankRight}
 use Rattle.decades.specs.Table as tabled
 use Rattle.probes.specs.declared.Probe.{Probe}
 use Rattle.probes.specs.Claims as probes
 use Rattle.controller.specs.declared.Probed.{Probed}
 use Rattle.controller.specs.Calls.{sheetOpened, sheetPlanned, probedNumbers}
-use Rattle.controller.specs.Roles.{openedBy, recordedBy, lossBy, plannedBy, probedBy, tabledBy, climateWrittenBy, blockWrittenBy, SameForRoles}
-use Rattle.controller.specs.Refusals.{onLines, openLines, lossLines, entryLines, planLines, probeLines, tableLines}
+use Rattle.controller.specs.Roles.{openedBy, recordedBy, lossBy, plannedBy, probedBy, bankedBy, tabledBy, climateWrittenBy, blockWrittenBy, SameForRoles}
+use Rattle.controller.specs.Refusals.{onLines, openLines, lossLines, entryLines, planLines, probeLines, tableLines, bankLines}
 use Rattle.controller.specs.Demands.{PlanKept, Demand3, Press, areaPressed, OnlyLook}
 use Rattle.controller.specs.OneSheet.{SameAsOneSheet}
 use Rattle.controller.specs.Cases.{cases, leapCases, probeCases, roleCases}
@@ -61,6 +65,9 @@ pub record Claims : Type 0 where
       → verdictOf (planned.numbersOf (plannedBy role climate block area out .0)) ≡ firstOf Accepted (onLines (lookLines role) climate block (planLines area (length out)))
   pub probe-refuses : (role : ℕ) (climate block area : List ℕ) (shallow deep : Probe) (f : ℕ)
       → verdictOf (probedNumbers (probedBy role climate block area shallow deep f)) ≡ firstOf Accepted (onLines (lookLines role) climate block (probeLines area shallow deep f))
+  pub bank-refuses : (role : ℕ) (climate : List ℕ) (blocks limit : ℕ) (lengths sheets areas depths answers : List ℕ)
+      → bankedBy role climate blocks limit lengths sheets areas depths answers .0
+      ≡ firstOf Accepted (lookLines role ++ bankLines climate blocks limit lengths sheets areas (length depths))
   pub table-refuses : (role : ℕ) (climate block out : List ℕ)
       → verdictOf (tabled.numbersOf (tabledBy role climate block out .0)) ≡ firstOf Accepted (onLines (lookLines role) climate block (tableLines (length out)))
   pub climate-write-refuses : (role : ℕ) (c out : List ℕ)
@@ -74,6 +81,9 @@ pub record Claims : Type 0 where
       → recordedBy role climate block area e ≡ recordedWith (Refused number value) noStores
   pub plan-unaltered : (role : ℕ) (climate block area out : List ℕ) (number value : ℕ)
       → verdictOf (planned.numbersOf (plannedBy role climate block area out .0)) ≡ Refused number value → plannedBy role climate block area out .1 ≡ out
+  pub bank-unaltered : (role : ℕ) (climate : List ℕ) (blocks limit : ℕ) (lengths sheets areas depths answers : List ℕ) (number value : ℕ)
+      → bankedBy role climate blocks limit lengths sheets areas depths answers .0 ≡ Refused number value
+      → bankedBy role climate blocks limit lengths sheets areas depths answers ≡ (Refused number value, answers, depths)
   pub table-unaltered : (role : ℕ) (climate block out : List ℕ) (number value : ℕ)
       → verdictOf (tabled.numbersOf (tabledBy role climate block out .0)) ≡ Refused number value → tabledBy role climate block out .1 ≡ out
   pub climate-write-unaltered : (role : ℕ) (c out : List ℕ) (number value : ℕ) → climateWrittenBy role c out .0 ≡ writer.Refused number value
@@ -89,6 +99,18 @@ pub record Claims : Type 0 where
   pub plan-right : (climate block area out : List ℕ) (l : Ledger) → sheetsOf climate block .verdict ≡ Accepted → sheetOpened climate block area .opening ≡ Clean l
       → l .day ≤ seasonDays (sheetsOf climate block .season) → daysLeft (sheetsOf climate block .season) (l .day) ≤ length out
       → PlanKept (sheetsOf climate block .season) l out (sheetPlanned climate block area out)
+  -- An accepted bank (document 02, T-10): each block is right on the turn days that the plans given before it leave, and on no day do more than `limit`
+  -- blocks water. The array of answers has 200 numbers.
+  pub bank-right : (role : ℕ) (climate : List ℕ) (blocks limit : ℕ) (lengths sheets areas depths answers answers′ depths′ : List ℕ) → length answers ≡ 200
+      → bankedBy role climate blocks limit lengths sheets areas depths answers ≡ (Accepted, answers′, depths′)
+      → BankRight climate blocks limit lengths sheets areas depths answers answers′ depths′
+  -- Where the limit is at least the count of blocks, each block's numbers and part are those of its plan call.
+  pub bank-alone : (role : ℕ) (climate : List ℕ) (blocks limit : ℕ) (lengths sheets areas depths answers answers′ depths′ : List ℕ) → length answers ≡ 200
+      → bankedBy role climate blocks limit lengths sheets areas depths answers ≡ (Accepted, answers′, depths′) → blocks ≤ limit → (k : ℕ) → k < blocks
+      → let alone = plannedBy role climate (partOf lengths 0 sheets k) (partOf lengths 1 areas k) (partOf lengths 2 depths k) in
+      (numbersAt answers′ k ≡ five (alone .0)) × (partOf lengths 2 depths′ k ≡ alone .1)
+  -- The bank's claims, whole: its plans are `bankPlans` of its blocks; and its first case.
+  pub banking : bank.Claims
   -- The planner's claims, whole: of any outlook, a plan is refused exactly when no choice holds, and a plan made is the best.
   pub planning : planner.Claims
   -- The probes' claims, whole: a content in ten-thousandths is the greatest whole number at most its exact value.

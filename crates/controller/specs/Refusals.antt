@@ -1,7 +1,7 @@
 -- Document 01, 'Why the controller says no': each call's refusals, read downward. A line is a test, the number, the number returned with it. What a call
 -- answers is held against the first line that applies by its numbering (`verdictOf` of its numbers). The role's stand first: those of journal's
 -- specs/Roles.antt. The writers' own are `writeLines` of sheet's specs/Writing.antt.
-use Prim.Native.Nat.{ℕ, _*_}
+use Prim.Native.Nat.{ℕ, zero, suc, _*_}
 use mathlib.Core.Bool.{Bool, true, false, _&&_, _||_}
 use mathlib.Core.List.{List, [], _∷_, _++_}
 use lib.Dec.{ltb}
@@ -9,8 +9,8 @@ use lib.ListN.{length}
 use Rattle.season.specs.declared.Season.{Season}
 use Rattle.season.specs.Sheet.{seasonDays}
 use Rattle.season.specs.Loss.{kyOutside}
-use Rattle.sheet.specs.Sheets.{sheetsOf}
-use Rattle.sheet.specs.Refusals.{pairLines}
+use Rattle.sheet.specs.Sheets.{climateOf, sheetsOf}
+use Rattle.sheet.specs.Refusals.{climateSheetLines, blockSheetLines, pairLines}
 use Rattle.journal.specs.declared.Entry.{Entry}
 use Rattle.journal.specs.declared.Ledger.{Ledger}
 use Rattle.journal.specs.declared.Opening.{Opening}
@@ -20,6 +20,8 @@ use Rattle.journal.specs.Opening.{opening}
 use Rattle.journal.specs.Roles.{Line}
 use Rattle.planner.specs.Plan.{Plan, depths, refused, plan}
 use Rattle.planner.specs.Outlook.{outlook, daysLeft}
+use Rattle.bank.specs.Blocks.{lengthOf, partOf, bankWrong}
+use Rattle.bank.specs.Judging.{blocksOf, judgedAt, startsDiffer}
 use Rattle.decades.specs.Table.{rowCount}
 use Rattle.probes.specs.declared.Probe.{Probe}
 use Rattle.probes.specs.Contents.{wrongContent, noContent}
@@ -104,3 +106,29 @@ probeLines area shallow deep f s =
     ∷ (wrongContent shallow || wrongContent deep || capacityOutside f, 18, 0)
     ∷ (noContent shallow && noContent deep, 19, 0)
     ∷ [])
+
+-- ---- 22 and 23
+
+-- A block of a bank (document 02, T-10), behind its sheet's: 8 to 11 and 15. 16 is its own answer.
+abbrev pub standLines : List ℕ → ℕ → Season → List Line
+standLines area room s =
+    openLines area s
+    ++ ((ltb (seasonDays s) (ledgerIn s (opening s area) .day), 11, 0)
+    ∷ (ltb room (daysLeft s (ledgerIn s (opening s area) .day)), 15, 0)
+    ∷ [])
+
+-- The first n blocks, first block first.
+unfoldable pub blocksLines : List ℕ → List ℕ → List ℕ → List ℕ → ℕ → List Line
+blocksLines climate lengths sheets areas zero = []
+blocksLines climate lengths sheets areas (suc k) =
+    blocksLines climate lengths sheets areas k
+    ++ (blockSheetLines (partOf lengths 0 sheets k)
+    ++ standLines (partOf lengths 1 areas k) (lengthOf lengths 2 k) (sheetsOf climate (partOf lengths 0 sheets k) .season))
+
+-- A bank: 22; the climate sheet's; block by block the block's; 23.
+abbrev pub bankLines : List ℕ → ℕ → ℕ → List ℕ → List ℕ → List ℕ → ℕ → List Line
+bankLines climate blocks limit lengths sheets areas room =
+    (bankWrong blocks limit lengths (length sheets) (length areas) room, 22, 0)
+    ∷ (climateSheetLines climate
+    ++ (blocksLines climate lengths sheets areas blocks
+    ++ ((startsDiffer (judgedAt (blocksOf (climateOf climate) lengths sheets areas)) blocks, 23, 0) ∷ [])))

@@ -3,6 +3,8 @@
 use Prim.Native.Nat.{ℕ, _≤_}
 use mathlib.Core.Path.{_≡_}
 use mathlib.Core.List.{List}
+use Rattle.verdict.specs.declared.Verdict.{Verdict}
+use Rattle.verdict.specs.declared.Verdict.the-variants.{Refused}
 use Rattle.sheet.specs.declared.Written.{Written}
 use Rattle.sheet.specs.declared.Written.the-variants as writer
 use Rattle.sheet.specs.Writing.{climateWritten, blockWritten}
@@ -15,6 +17,7 @@ use Rattle.journal.specs.Roles.{lookLines, byRole}
 use Rattle.journal.specs.History.{withoutStores, recordedAs, openedAs}
 use Rattle.planner.specs.declared.Planned.{Planned}
 use Rattle.planner.specs.declared.Planned.the-variants as planned
+use Rattle.bank.specs.Banks.{banked}
 use Rattle.decades.specs.declared.Tabled.{Tabled}
 use Rattle.decades.specs.declared.Tabled.the-variants as table
 use Rattle.probes.specs.declared.Probe.{Probe}
@@ -40,6 +43,11 @@ plannedBy role climate block area out = byRole (lookLines role) (λ number value
 abbrev pub probedBy : ℕ → List ℕ → List ℕ → List ℕ → Probe → Probe → ℕ → Probed
 probedBy role climate block area shallow deep f = byRole (lookLines role) probed.Refused (sheetProbed climate block area shallow deep f)
 
+-- Of a bank: the verdict, the answers and the depths.
+abbrev pub bankedBy : ℕ → List ℕ → ℕ → ℕ → List ℕ → List ℕ → List ℕ → List ℕ → List ℕ → Verdict × List ℕ × List ℕ
+bankedBy role climate blocks limit lengths sheets areas depths answers =
+    byRole (lookLines role) (λ number value. (Refused number value, answers, depths)) (banked climate blocks limit lengths sheets areas depths answers)
+
 abbrev pub tabledBy : ℕ → List ℕ → List ℕ → List ℕ → Tabled × List ℕ
 tabledBy role climate block out = byRole (lookLines role) (λ number value. (table.Refused number value, out)) (sheetTabled climate block out)
 
@@ -62,6 +70,8 @@ pub record SameForRoles : Type 0 where
       → plannedBy role climate block area out ≡ sheetPlanned climate block area out
   pub probes : (role : ℕ) → 1 ≤ role → role ≤ 3 → (climate block area : List ℕ) (shallow deep : Probe) (f : ℕ)
       → probedBy role climate block area shallow deep f ≡ sheetProbed climate block area shallow deep f
+  pub banks : (role : ℕ) → 1 ≤ role → role ≤ 3 → (climate : List ℕ) (blocks limit : ℕ) (lengths sheets areas depths answers : List ℕ)
+      → bankedBy role climate blocks limit lengths sheets areas depths answers ≡ banked climate blocks limit lengths sheets areas depths answers
   pub tables : (role : ℕ) → 1 ≤ role → role ≤ 3 → (climate block out : List ℕ) → tabledBy role climate block out ≡ sheetTabled climate block out
   pub writes-climate : (role : ℕ) → 1 ≤ role → role ≤ 3 → (c out : List ℕ) → climateWrittenBy role c out ≡ climateWritten c out
   pub writes-block : (role : ℕ) → 1 ≤ role → role ≤ 3 → (vs out : List ℕ) → blockWrittenBy role vs out ≡ blockWritten vs out

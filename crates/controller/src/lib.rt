@@ -1,6 +1,7 @@
 // The calls that firmware and the tablet make (documents 01 and 02), on the bytes of a climate sheet and a block sheet, the journal's area and lent
 // buffers. Each is made by a role, and gives the first refusal that applies, with document 01's number. Nothing here stores to the area: the stores are
 // handed back, and the firmware does them in the order given. A public call judges the role and leaves the rest to a function without one.
+use bank::ANSWERS;
 use decades::Tabled;
 use journal::Entry;
 use journal::Lost;
@@ -28,7 +29,7 @@ ghost use Rattle.journal.specs.Roles.{lookLines};
 ghost use Rattle.probes.specs.Contents.{isWrong, isNothing, contentIn};
 ghost use Rattle.probes.specs.Depletion.{measured};
 ghost use Rattle.controller.specs.Calls.{sheetOpened, sheetRecorded, sheetLost, plannedOn, sheetPlanned, capacityOutside, probedFrom, probedOn, sheetProbed, sheetTabled};
-ghost use Rattle.controller.specs.Roles.{openedBy, recordedBy, lossBy, plannedBy, probedBy, tabledBy, climateWrittenBy, blockWrittenBy};
+ghost use Rattle.controller.specs.Roles.{openedBy, recordedBy, lossBy, plannedBy, probedBy, bankedBy, tabledBy, climateWrittenBy, blockWrittenBy};
 
 // What probe answers: the ledger's depletion and the measured one, or a refusal.
 pub enum Probed {
@@ -266,7 +267,7 @@ fn look(role: u32) -> Verdict
     Verdict::Accepted
 }
 
-// ---- the ten calls
+// ---- the eleven calls
 
 // What the journal holds: clean or torn with its ledger, or a refusal; and, for role 3, the places of a torn part to set to FF, in this order. Refusals 20,
 // and 1 to 9.
@@ -352,6 +353,37 @@ pub fn probe(
     match look(role) {
         Verdict::Refused(n, v) => Probed::Refused(n, v),
         Verdict::Accepted => sheet_probed(climate, block, area, shallow, deep, capacity),
+    }
+}
+
+// Up to forty blocks planned on one pump, which feeds at most `limit` valves on a day (document 02, T-10): five numbers a block in `answers`, and each
+// plan's depths from the start of the block's part of `depths`. `lengths` has three numbers a block: its sheet, its journal, its part. Refusals 20; 22;
+// 1 to 4 of the climate sheet; block by block 1 to 11 and 15; 23. A block that can't be held is answered 16 in `answers`.
+pub fn bank(
+    role: u32,
+    climate: &[u8],
+    blocks: u32,
+    limit: u32,
+    lengths: &[u32],
+    sheets: &[u8],
+    areas: &[u8],
+    depths: &mut [u32],
+    answers: &mut [u32; ANSWERS],
+) -> Verdict
+    ensures { λ r. ⌜ (r, now (answers .exit), now (depths .exit)) ≡ bankedBy role (now (climate .entry)) blocks limit (now (lengths .entry)) (now (sheets .entry)) (now (areas .entry)) (now (depths .entry)) (now (answers .entry)) ⌝ }
+{
+    match look(role) {
+        Verdict::Refused(n, v) => Verdict::Refused(n, v),
+        Verdict::Accepted => bank::plan_bank(
+            climate,
+            blocks,
+            limit,
+            lengths,
+            sheets,
+            areas,
+            depths,
+            answers,
+        ),
     }
 }
 
