@@ -11,7 +11,7 @@ use Rattle.season.specs.declared.Season.{Season}
 use Rattle.season.specs.Day.{AcceptedSeason}
 use Rattle.verdict.specs.declared.Verdict.{Verdict}
 use Rattle.verdict.specs.declared.Verdict.the-variants.{Accepted, Refused}
-use Rattle.verdict.specs.Refusals.{firstOf}
+use Rattle.verdict.specs.Refusals.{orRefused, firstOf}
 use Rattle.verdict.proofs.First.{Refusal, first-refusal}
 use Rattle.sheet.proofs.Numbered.{refused-is, climate-write-refused-is, block-write-refused-is}
 use Rattle.sheet.proofs.Claims as sheets
@@ -19,7 +19,7 @@ use Rattle.sheet.specs.declared.Written.{Written}
 use Rattle.sheet.specs.declared.Written.the-variants as writer
 use Rattle.sheet.specs.Numbers.{written}
 use Rattle.sheet.specs.Writing.{sheetFields, climateWritten, blockWritten, writeVerdict}
-use Rattle.sheet.specs.Sheets.{sheetsOf}
+use Rattle.sheet.specs.Sheets.{climateOf, blockWith, sheetsOf}
 use Rattle.season.specs.Sheet.{seasonDays, longestSeason}
 use Rattle.journal.specs.declared.Entry.{Entry}
 use Rattle.journal.specs.declared.Ledger.{Ledger}
@@ -41,6 +41,10 @@ use Rattle.planner.specs.Plan.{Plan, depths, refused, plan}
 use Rattle.planner.specs.Outlook.{outlook, daysLeft}
 use Rattle.planner.specs.Answer.{answerTo, answer}
 use Rattle.planner.proofs.Claims as plans
+use Rattle.bank.specs.declared.Judged.{Judged}
+use Rattle.bank.specs.Blocks.{lengthOf, partOf, bankWrong}
+use Rattle.bank.specs.Judging.{standingOn, judgedBy, judged, Blocks, blocksOf, judgedAt, before, firstRefused, startsDiffer, blocksVerdict}
+use Rattle.bank.specs.Banks.{Progress, bankedIf, bankVerdict, banked}
 use Rattle.decades.specs.declared.Tabled.{Tabled}
 use Rattle.decades.specs.declared.Tabled.the-variants as table
 use Rattle.decades.specs.Table.{rowCount, tabled}
@@ -51,7 +55,7 @@ use Rattle.probes.specs.declared.Reading.{Reading}
 use Rattle.probes.specs.Contents.{readingOf}
 use Rattle.controller.specs.declared.Probed.the-variants as probed
 use Rattle.controller.specs.Calls.{plannedOn, probeRefusals, probedUnless, probedFrom, probedOn, sheetOpened, sheetRecorded, sheetLost, sheetPlanned, sheetProbed, sheetTabled}
-use Rattle.controller.specs.Roles.{openedBy, recordedBy, lossBy, plannedBy, probedBy, tabledBy, climateWrittenBy, blockWrittenBy}
+use Rattle.controller.specs.Roles.{openedBy, recordedBy, lossBy, plannedBy, probedBy, bankedBy, tabledBy, climateWrittenBy, blockWrittenBy}
 use Rattle.controller.proofs.Sheets.{on-sheets}
 use Rattle.controller.proofs.Roles.{look-by, enter-by, either-way}
 use Rattle.controller.proofs.Refusing.{opening-by}
@@ -268,6 +272,69 @@ tabled-small role climate block out =
     (on-sheets (λ number value. (table.Refused number value, out)) (λ s. tabled s out) climate block (λ (a : Tabled × List ℕ). SmallTabled (a .0))
     (λ number value v. refused-small climate block number value v)
     (λ s v q o. rows-few s o out))
+
+-- ---- a bank
+
+before-small : (v w : Verdict) → SmallVerdict v → SmallVerdict w → SmallVerdict (before v w)
+before-small Accepted w a b = b
+before-small (Refused number value) w a b = a
+
+or-small : (v : Verdict) (t : Bool) (number : ℕ) → SmallVerdict v → SmallVerdict (orRefused v t number 0)
+unfolding orRefused
+or-small Accepted true number a = omega arith
+or-small Accepted false number a = tt
+or-small (Refused n value) t number a = a
+
+first-small : (f : ℕ → Judged) (n : ℕ) → ((k : ℕ) → SmallVerdict (f k .verdict)) → SmallVerdict (firstRefused f n)
+unfolding firstRefused
+first-small f zero h = tt
+first-small f (suc n) h = before-small (firstRefused f n) (f n .verdict) (first-small f n h) (h n)
+
+module _ (climate : List ℕ) where
+  climate-sheet-small : SmallVerdict (climateOf climate .verdict)
+  unfolding sheetsOf blockWith
+  climate-sheet-small = go (climateOf climate .verdict) refl
+    where
+      go : (v : Verdict) → climateOf climate .verdict ≡ v → SmallVerdict v
+      go Accepted e = tt
+      go (Refused number value) e = refused-small climate [] number value (rw e refl)
+
+  judged-small : (block area : List ℕ) (room : ℕ) → SmallVerdict (judged (climateOf climate) block area room .verdict)
+  unfolding judged standingOn sheetsOf
+  judged-small block area room = go (sheetsOf climate block .verdict) refl
+    where
+      go : (v : Verdict) → sheetsOf climate block .verdict ≡ v → SmallVerdict (judgedBy v (sheetsOf climate block .season) area room .verdict)
+      go (Refused number value) e = refused-small climate block number value e
+      go Accepted e =
+          let s = sheetsOf climate block .season in
+          opening-by s area (λ o. SmallVerdict (standingOn s room o .verdict))
+          (λ h. omega arith)
+          (λ h l i. or-small _ (ltb room (daysLeft s (l .day))) 15 (or-small Accepted (ltb (seasonDays s) (l .day)) 11 tt))
+          (λ h l i. omega arith)
+          (λ h l i. omega arith)
+
+bank-small : (climate : List ℕ) (blocks limit : ℕ) (lengths sheets areas : List ℕ) (size : ℕ) → SmallVerdict (bankVerdict climate blocks limit lengths sheets areas size)
+bank-small climate blocks limit lengths sheets areas size =
+    before-small (orRefused Accepted (bankWrong blocks limit lengths (length sheets) (length areas) size) 22 0) (before (climateOf climate .verdict) (blocksVerdict (judgedAt b) blocks))
+    (or-small Accepted (bankWrong blocks limit lengths (length sheets) (length areas) size) 22 tt)
+    (before-small (climateOf climate .verdict) (blocksVerdict (judgedAt b) blocks) (climate-sheet-small climate)
+    (or-small (firstRefused (judgedAt b) blocks) (startsDiffer (judgedAt b) blocks) 23
+    (first-small (judgedAt b) blocks (λ k. judged-small climate (partOf lengths 0 sheets k) (partOf lengths 1 areas k) (lengthOf lengths 2 k)))))
+  where
+    b : Blocks
+    b = blocksOf (climateOf climate) lengths sheets areas
+
+pub banked-small : (role : ℕ) (climate : List ℕ) (blocks limit : ℕ) (lengths sheets areas parts answers : List ℕ)
+    → SmallVerdict (bankedBy role climate blocks limit lengths sheets areas parts answers .0)
+unfolding banked
+banked-small role climate blocks limit lengths sheets areas parts answers =
+    look-by (λ (a : Verdict × List ℕ × List ℕ). SmallVerdict (a .0)) (λ number value. (Refused number value, answers, parts))
+    (banked climate blocks limit lengths sheets areas parts answers) role (omega arith)
+    (is-small (bankVerdict climate blocks limit lengths sheets areas (length parts)) _ (bank-small climate blocks limit lengths sheets areas (length parts)))
+  where
+    is-small : (v : Verdict) (p : Progress) → SmallVerdict v → SmallVerdict (bankedIf v p answers parts .0)
+    is-small Accepted p h = h
+    is-small (Refused number value) p h = h
 
 -- ---- the writers
 

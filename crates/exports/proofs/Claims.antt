@@ -33,14 +33,14 @@ use Rattle.sheet.specs.declared.Written.the-variants as made
 use Rattle.sheet.specs.Writing as writer
 use Rattle.season.proofs.Stores.{at-start}
 use Rattle.controller.specs.Calls.{probedNumbers}
-use Rattle.controller.specs.Roles.{openedBy, recordedBy, lossBy, plannedBy, probedBy, tabledBy, climateWrittenBy, blockWrittenBy}
+use Rattle.controller.specs.Roles.{openedBy, recordedBy, lossBy, plannedBy, probedBy, bankedBy, tabledBy, climateWrittenBy, blockWrittenBy}
 use Rattle.controller.proofs.Claims as controller
-use Rattle.verdict.specs.Refusals.{numbersThen}
+use Rattle.verdict.specs.Refusals.{numbersThen, numbersOf}
 use Rattle.answers.specs.Over.{outLength, writtenOver}
 use Rattle.exports.specs.Written.{withLedger, openedOut}
 use Rattle.exports.specs.Kinds.{probeOf}
 use Rattle.exports.specs.Claims.{Claims}
-use Rattle.exports.proofs.Bounds.{opened-small, recorded-small, lost-small, planned-small, probed-small, tabled-small, climate-small, block-small}
+use Rattle.exports.proofs.Bounds.{opened-small, recorded-small, lost-small, planned-small, probed-small, banked-small, tabled-small, climate-small, block-small}
 
 over-first : (ns out : List ℕ) → length ns ≤ length out → writtenOver ns out ≡ ns ++ drop (length ns) out
 over-first ns out h = at-start ns out h
@@ -55,6 +55,10 @@ opening-length (found.Refused number value) r h = omega arith
 lost-length : (r : Lost) → length (lossNumbers r) ≤ outLength
 lost-length (losing.Parts p) = omega arith
 lost-length (losing.Refused number value) = omega arith
+
+verdict-length : (v : Verdict) → length (numbersOf v) ≤ outLength
+verdict-length Accepted = omega arith
+verdict-length (Refused number value) = omega arith
 
 planned-length : (p : Planned) → length (planner.numbersOf p) ≤ outLength
 planned-length (planned.Made days net gross) = omega arith
@@ -129,6 +133,7 @@ claims = record {
   lost-fits = λ role climate block area ky. lost-length (lossBy role climate block area ky);
   planned-fits = λ role climate block area depths. planned-length (plannedBy role climate block area depths .0);
   probed-fits = λ role climate block area shallow deep f. probed-length (probedBy role climate block area shallow deep f);
+  banked-fits = λ role climate blocks limit lengths sheets areas depths answers. verdict-length (bankedBy role climate blocks limit lengths sheets areas depths answers .0);
   tabled-fits = λ role climate block rows. tabled-length (tabledBy role climate block rows .0);
   climate-fits = λ role fields climate. written-length (climateWrittenBy role fields climate .0);
   block-fits = λ role fields block. written-length (blockWrittenBy role fields block .0);
@@ -137,6 +142,7 @@ claims = record {
   lost-small = lost-small;
   planned-small = planned-small;
   probed-small = probed-small;
+  banked-small = banked-small;
   tabled-small = tabled-small;
   climate-small = climate-small;
   block-small = block-small;

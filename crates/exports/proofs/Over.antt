@@ -36,6 +36,12 @@ both-by {A} {a} {b} {buffer} numbers out case is w =
     ap (λ (l : List ℕ). (l, buffer)) (w ∙ ap (λ (x : A). writtenOver (numbers x) out) (sym case))
     ∙ ap (λ (x : A × List ℕ). (writtenOver (numbers (x .0)) out, x .1)) is
 
+-- The same with two lent buffers.
+pub three-by : {A : Type 0} {a : A} {one two last : List ℕ} {call : A × List ℕ × List ℕ} (numbers : A → List ℕ) (out : List ℕ) → _≡_ {A = A × List ℕ × List ℕ} (a, one, two) call
+    → last ≡ writtenOver (numbers a) out → _≡_ {A = List ℕ × List ℕ × List ℕ} (last, one, two) (writtenOver (numbers (call .0)) out, call .1, call .2)
+three-by {A} {a} {one} {two} numbers out is w =
+    ap (λ (l : List ℕ). (l, one, two)) w ∙ ap (λ (x : A × List ℕ × List ℕ). (writtenOver (numbers (x .0)) out, x .1, x .2)) is
+
 -- An array's numbers, one by one.
 pub three-are : (xs : List ℕ) → length xs ≡ 3 → getD xs 0 0 ∷ getD xs 1 0 ∷ getD xs 2 0 ∷ [] ≡ xs
 three-are [] h = absurd (omega arith)

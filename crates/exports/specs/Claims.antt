@@ -4,6 +4,7 @@ use lib.Ieee.{Float}
 use mathlib.Core.Path.{_≡_}
 use mathlib.Core.List.{List, _++_}
 use lib.ListN.{length, drop}
+use Rattle.verdict.specs.Refusals as verdicts
 use Rattle.journal.specs.declared.Entry.{Entry}
 use Rattle.journal.specs.declared.Recorded.{Recorded}
 use Rattle.journal.specs.declared.Opened.{Opened}
@@ -15,11 +16,11 @@ use Rattle.sheet.specs.Writing as writer
 use Rattle.probes.specs.declared.Probe.{Probe}
 use Rattle.probes.specs.declared.Probe.the-variants.{Water, Low, Silent}
 use Rattle.controller.specs.Calls.{probedNumbers}
-use Rattle.controller.specs.Roles.{openedBy, recordedBy, lossBy, plannedBy, probedBy, tabledBy, climateWrittenBy, blockWrittenBy}
+use Rattle.controller.specs.Roles.{openedBy, recordedBy, lossBy, plannedBy, probedBy, bankedBy, tabledBy, climateWrittenBy, blockWrittenBy}
 use Rattle.answers.specs.Over.{outLength, writtenOver}
 use Rattle.exports.specs.Written.{openedOut, recordedOut}
 use Rattle.exports.specs.Kinds.{probeOf}
-use Rattle.exports.specs.Small.{SmallOpened, SmallRecorded, SmallLost, SmallPlanned, SmallProbed, SmallTabled, SmallWritten}
+use Rattle.exports.specs.Small.{SmallVerdict, SmallOpened, SmallRecorded, SmallLost, SmallPlanned, SmallProbed, SmallTabled, SmallWritten}
 
 pub record Claims : Type 0 where
   -- Numbers that an array has room for stand first in it, and what stood beyond them stays.
@@ -30,6 +31,8 @@ pub record Claims : Type 0 where
   pub lost-fits : (role : ℕ) (climate block area : List ℕ) (ky : ℕ) → length (lossNumbers (lossBy role climate block area ky)) ≤ outLength
   pub planned-fits : (role : ℕ) (climate block area depths : List ℕ) → length (planner.numbersOf (plannedBy role climate block area depths .0)) ≤ outLength
   pub probed-fits : (role : ℕ) (climate block area : List ℕ) (shallow deep : Probe) (f : ℕ) → length (probedNumbers (probedBy role climate block area shallow deep f)) ≤ outLength
+  pub banked-fits : (role : ℕ) (climate : List ℕ) (blocks limit : ℕ) (lengths sheets areas depths answers : List ℕ)
+      → length (verdicts.numbersOf (bankedBy role climate blocks limit lengths sheets areas depths answers .0)) ≤ outLength
   pub tabled-fits : (role : ℕ) (climate block rows : List ℕ) → length (decades.numbersOf (tabledBy role climate block rows .0)) ≤ outLength
   pub climate-fits : (role : ℕ) (fields climate : List ℕ) → length (writer.numbersOf (climateWrittenBy role fields climate .0)) ≤ outLength
   pub block-fits : (role : ℕ) (fields block : List ℕ) → length (writer.numbersOf (blockWrittenBy role fields block .0)) ≤ outLength
@@ -39,6 +42,8 @@ pub record Claims : Type 0 where
   pub lost-small : (role : ℕ) (climate block area : List ℕ) (ky : ℕ) → SmallLost (lossBy role climate block area ky)
   pub planned-small : (role : ℕ) (climate block area depths : List ℕ) → SmallPlanned (plannedBy role climate block area depths .0)
   pub probed-small : (role : ℕ) (climate block area : List ℕ) (shallow deep : Probe) (f : ℕ) → SmallProbed (probedBy role climate block area shallow deep f)
+  pub banked-small : (role : ℕ) (climate : List ℕ) (blocks limit : ℕ) (lengths sheets areas depths answers : List ℕ)
+      → SmallVerdict (bankedBy role climate blocks limit lengths sheets areas depths answers .0)
   pub tabled-small : (role : ℕ) (climate block rows : List ℕ) → SmallTabled (tabledBy role climate block rows .0)
   pub climate-small : (role : ℕ) (fields climate : List ℕ) → length fields ≡ 24 → SmallWritten (climateWrittenBy role fields climate .0)
   pub block-small : (role : ℕ) (fields block : List ℕ) → length fields ≡ 17 → SmallWritten (blockWrittenBy role fields block .0)

@@ -3,7 +3,8 @@
 use Prim.Native.Nat.{ℕ}
 use mathlib.Core.List.{List, [], _∷_, _++_}
 use Rattle.answers.specs.Over.{writtenOver}
-use Rattle.verdict.specs.Refusals.{numbersThen}
+use Rattle.verdict.specs.declared.Verdict.{Verdict}
+use Rattle.verdict.specs.Refusals.{numbersThen, numbersOf}
 use Rattle.journal.specs.declared.Recorded.{Recorded}
 use Rattle.journal.specs.declared.Opening.{Opening}
 use Rattle.journal.specs.declared.Opening.the-variants as found
@@ -33,6 +34,10 @@ recordedOut r = numbersThen (r .verdict) (r .stores .start ∷ r .stores .count 
 -- Plan, table and both writers: the array and the lent buffer, of the answer and the buffer that the controller gives.
 abbrev pub plannedOver : List ℕ → Planned × List ℕ → List ℕ × List ℕ
 plannedOver out a = (writtenOver (planner.numbersOf (a .0)) out, a .1)
+
+-- A bank has two lent buffers, the answers and the depths.
+abbrev pub bankedOver : List ℕ → Verdict × List ℕ × List ℕ → List ℕ × List ℕ × List ℕ
+bankedOver out a = (writtenOver (numbersOf (a .0)) out, a .1, a .2)
 
 abbrev pub tabledOver : List ℕ → Tabled × List ℕ → List ℕ × List ℕ
 tabledOver out a = (writtenOver (decades.numbersOf (a .0)) out, a .1)

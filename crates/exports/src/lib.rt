@@ -8,6 +8,7 @@ use answers::put_refusal;
 use answers::put_size;
 use answers::put_stores;
 use answers::put_totals;
+use bank::ANSWERS;
 use controller::Probed;
 use decades::Tabled;
 use journal::Entry;
@@ -19,17 +20,18 @@ use probes::Probe;
 use sheet::Written;
 use verdict::Verdict;
 ghost use mathlib.Core.Path.{_≡_};
+ghost use Rattle.verdict.specs.Refusals as verdicts;
 ghost use Rattle.journal.specs.declared.Entry.the-variants.{Water, Close};
 ghost use Rattle.journal.specs.declared.Source.the-variants.{Rain, Irrigation};
 ghost use Rattle.journal.specs.Loss.{lossNumbers};
 ghost use Rattle.planner.specs.Answer.{numbersOf};
 ghost use Rattle.sheet.specs.Writing as writer;
 ghost use Rattle.controller.specs.Calls.{probedNumbers};
-ghost use Rattle.controller.specs.Roles.{openedBy, recordedBy, lossBy, plannedBy, probedBy, tabledBy, climateWrittenBy, blockWrittenBy};
+ghost use Rattle.controller.specs.Roles.{openedBy, recordedBy, lossBy, plannedBy, probedBy, bankedBy, tabledBy, climateWrittenBy, blockWrittenBy};
 ghost use Rattle.exports.specs.Kinds.{probeOf};
 ghost use Rattle.answers.specs.Over.{writtenOver};
-ghost use Rattle.exports.specs.Written.{openedOut, recordedOut, plannedOver, tabledOver, sheetOver};
-ghost use Rattle.exports.specs.Small.{SmallPlanned, SmallWritten};
+ghost use Rattle.exports.specs.Written.{openedOut, recordedOut, plannedOver, bankedOver, tabledOver, sheetOver};
+ghost use Rattle.exports.specs.Small.{SmallVerdict, SmallPlanned, SmallWritten};
 
 // ---- an answer's numbers
 
@@ -41,6 +43,17 @@ fn put_planned(out: &mut [u32; OUT], p: Planned)
     match p {
         Planned::Made(waterings, net, gross) => put_totals(out, waterings, net.0, gross.points()),
         Planned::Refused(number, value) => put_refusal(out, number, value),
+    }
+}
+
+// A verdict alone.
+fn put_verdict(out: &mut [u32; OUT], v: Verdict)
+    requires { ⌜ SmallVerdict v ⌝ }
+    ensures { λ _. ⌜ now (out .exit) ≡ writtenOver (verdicts.numbersOf v) (now (out .entry)) ⌝ }
+{
+    match v {
+        Verdict::Accepted => put_refusal(out, 0, 0),
+        Verdict::Refused(number, value) => put_refusal(out, number, value),
     }
 }
 
@@ -95,7 +108,7 @@ fn probe_of(kind: u32, x: f32) -> Probe
     Probe::Silent
 }
 
-// ---- the ten calls
+// ---- the eleven calls
 
 // Clean or torn: open day, depletion, waiting rain, waiting irrigation, season rain, irrigation, use, percolation, place, need, need and use of each
 // stage, and how many places to set to FF and three places, highest first, which are 0 for roles 1 and 2. Refusals 20, and 1 to 9.
@@ -233,6 +246,39 @@ pub extern "C" fn balladsky_probe(
         Probed::Depletions(ledger, measured) => put_depletions(out, ledger, measured),
         Probed::Refused(number, value) => put_refusal(out, number, value),
     }
+}
+
+// Nothing beyond the verdict; five numbers a block in `answers`, and depths in the blocks' parts of the lent buffer. Refusals 20; 22; 1 to 4 of the
+// climate sheet; block by block 1 to 11 and 15; 23.
+#[no_mangle]
+pub extern "C" fn balladsky_bank(
+    role: u32,
+    climate: &[u8],
+    blocks: u32,
+    limit: u32,
+    lengths: &[u32],
+    sheets: &[u8],
+    areas: &[u8],
+    depths: &mut [u32],
+    answers: &mut [u32; ANSWERS],
+    out: &mut [u32; OUT],
+)
+    ensures { λ _. ⌜ (now (out .exit), now (answers .exit), now (depths .exit)) ≡ bankedOver (now (out .entry)) (bankedBy role (now (climate .entry)) blocks limit (now (lengths .entry)) (now (sheets .entry)) (now (areas .entry)) (now (depths .entry)) (now (answers .entry))) ⌝ }
+{
+    put_verdict(
+        out,
+        controller::bank(
+            role,
+            climate,
+            blocks,
+            limit,
+            lengths,
+            sheets,
+            areas,
+            depths,
+            answers,
+        ),
+    );
 }
 
 // Rows; six numbers a row in the lent buffer. Refusals 20, 1 to 7, and 15.
