@@ -9,6 +9,7 @@
 // a block sheet by their fields, and then up to four bytes that the journal starts with; one that starts with '+' is a
 // day; one that starts with '#' says where the figures are printed. February has 28 days there, and no forty-first number
 // is written, unless a figure's inputs set field 41.
+mod banks;
 mod ledger;
 mod probing;
 mod roles;
@@ -286,6 +287,7 @@ fn run_exact_rules(before: Tally) -> Tally {
         .run(b"rule_losses", rules::JOURNAL)
         .run(b"rule_probes", rules::PROBE)
         .run(b"rule_roles", rules::ROLE)
+        .run(b"rule_bank", rules::BANK)
 }
 
 // Document 01's rules by a separate reading of them: whole seasons.

@@ -1,6 +1,7 @@
 // What the product answers for a line of numbers. Its first four are the printed figure, the tolerance, the reason and
 // the deviation; inputs follow. Where a rule asks about a season, two numbers follow (a day, or a row and a column) and
 // then fields of the sheets with their values.
+use crate::banks;
 use crate::ledger;
 use crate::probing;
 use crate::roles;
@@ -100,6 +101,9 @@ pub const PROBE: u32 = 28;
 // A number of what a call answers by a role, on that journal.
 pub const ROLE: u32 = 29;
 
+// A number of what bank answers, on blocks with journals of their own.
+pub const BANK: u32 = 30;
+
 // Effective rain.
 fn rain(q: u32) -> u64 {
     if q <= 60000 {
@@ -185,7 +189,7 @@ pub fn set_fields(fields: &mut [u32], numbers: &[u32]) {
     }
 }
 
-fn set_field(fields: &mut [u32], field: u32, value: u32) {
+pub fn set_field(fields: &mut [u32], field: u32, value: u32) {
     if 0 < field {
         put(fields, (field - 1) as usize, value);
     }
@@ -264,7 +268,7 @@ pub fn answer(rule: u32, numbers: &[u32], fields: [u32; 41]) -> u64 {
 }
 
 // The same of the days closed so far: a number of the balance; or a byte of the journal, or a number of its opening, of
-// its loss, of the probes or of a call by a role.
+// its loss, of the probes or of a call by a role. A bank's blocks have journals of their own.
 pub fn answer_after_days(
     rule: u32,
     numbers: &[u32],
@@ -279,6 +283,9 @@ pub fn answer_after_days(
     let mut block = [0u8; 52];
     let n = io::count(sheets::write_climate(fields, &mut climate), &climate);
     let m = io::count(sheets::write_block(fields, &mut block), &block);
+    if rule == BANK {
+        return banks::number_of(&climate[..n], fields, numbers);
+    }
     if rule == PROBE {
         return probing::number_of(&climate[..n], &block[..m], area, numbers);
     }

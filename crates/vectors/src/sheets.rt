@@ -58,11 +58,17 @@ pub fn write_climate(fields: [u32; 41], bytes: &mut [u8]) -> isize {
     signed(put_fields(bytes, 0, &fields, 9, 33))
 }
 
-// The same of the block sheet. A February of 28 days is left out.
+// The same of the block sheet.
 pub fn write_block(fields: [u32; 41], bytes: &mut [u8]) -> isize {
-    let at = put_fields(bytes, 0, &fields, 0, 9);
-    let end: usize = if fields[40] == 28 { 40 } else { 41 };
-    signed(put_fields(bytes, at, &fields, 33, end))
+    signed(put_block(&fields, bytes, 0))
+}
+
+// Writes the block sheet of the first forty-one numbers to a place and those behind it; the place after it. A February
+// of 28 days is left out.
+pub fn put_block(fields: &[u32], bytes: &mut [u8], from: usize) -> usize {
+    let at = put_fields(bytes, from, fields, 0, 9);
+    let end: usize = if get(fields, 40) == 28 { 40 } else { 41 };
+    put_fields(bytes, at, fields, 33, end)
 }
 
 // Refusal number × 1000 and the number returned with it, or 0 for an accepted pair.

@@ -8,7 +8,7 @@ use trial::put;
 use trial::saturating_add;
 
 // Copies so many numbers from a place on to a place and those behind it.
-fn copy(from: &[u32], first: usize, to: &mut [u32], at: usize, count: usize) {
+pub fn copy(from: &[u32], first: usize, to: &mut [u32], at: usize, count: usize) {
     let mut i: usize = 0;
     while i < count {
         let source = saturating_add(first as u64, i as u64);
