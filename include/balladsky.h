@@ -1,4 +1,4 @@
-/* Balladsky: the block water controller of documents 01 and 02, ten calls on bytes. C99 and C++.
+/* Balladsky: the block water controller of documents 01 and 02, eleven calls on bytes. C99 and C++.
  *
  * Link target/staticlib/libexports.a (made by `rt staticlib exports`, x86-64 Linux). It needs memcpy and memset, and
  * nothing else. Every call is proved to meet a contract that fixes each number it writes; crates/exports/src/lib.rt
@@ -23,23 +23,33 @@
  *                        the probe a day or two after a soaking rain, when drainage has stopped. It is no number of
  *                        either sheet. Any number.
  *   depths, rows         A buffer that you lend, with how many numbers it has. Too few is refusal 15.
+ *   blocks, limit        A bank's: how many blocks one pump feeds, and how many valves it feeds on a day. Any numbers;
+ *                        one outside 1 to 40 is refusal 22.
+ *   lengths              A bank's, read only, with how many numbers it has: three a block in block order, the bytes of
+ *                        its sheet, the bytes of its journal, the numbers of its part of depths. Any numbers. Fewer
+ *                        than three a block, or lengths that together pass their buffer's end, are refusal 22; numbers
+ *                        behind are not read.
+ *   sheets, areas        A bank's block sheets and its journals, read only, each kind end to end from the start of one
+ *                        buffer, in block order. The parts of depths stand in the same way. What lies behind the last
+ *                        block's part is neither read nor written.
+ *   answers              A bank's: an array of BALLADSKY_ANSWERS numbers that you lend.
  *   fields               An array of BALLADSKY_CLIMATE_FIELDS or BALLADSKY_BLOCK_FIELDS numbers, read only: those of
  *                        the sheet in its order; of a block the days of February last. Any numbers.
  *   out                  An array of BALLADSKY_OUT numbers that you lend.
- * The lengths of `fields` and `out` are what no call can test. To write, `climate` and `block` are a buffer of bytes
- * that you lend: too few is refusal 15.
+ * The lengths of `fields`, `answers` and `out` are what no call can test. To write, `climate` and `block` are a buffer
+ * of bytes that you lend: too few is refusal 15.
  * No pointer may be null, even where its length is 0, and each must point to as many elements as its length says.
- * Buffers of 32-bit numbers are aligned as uint32_t. `out`, `depths`, `rows` and a sheet that is written must not
- * overlap anything else that is passed. Nothing is kept after the call returns, so what is lent need live no longer
- * than the call.
+ * Buffers of 32-bit numbers are aligned as uint32_t. `out`, `answers`, `depths`, `rows` and a sheet that is written
+ * must not overlap anything else that is passed. Nothing is kept after the call returns, so what is lent need live no
+ * longer than the call.
  *
  * WHAT IS WRITTEN
  *   out[0]  BALLADSKY_ACCEPTED (0; from open: clean), BALLADSKY_TORN (10) from open, or the refusal's number. 10 from
  *           open is a finding and no refusal: the ledger comes with it. From any other call it is a refusal.
  *   out[1]  The number returned with it; where open finds the journal torn, the place. Else 0.
  *   out[2]  and on: the answer, as each call says. Only where accepted, and by open where clean or torn.
- * Numbers of out beyond the answer, and what a lent buffer has beyond the depths, rows or bytes, stay as they were. A
- * refusal writes out[0] and out[1], and no lent buffer.
+ * Numbers of out beyond the answer, and what a lent buffer has beyond the depths, rows, answers or bytes, stay as they
+ * were. A refusal writes out[0] and out[1], and no lent buffer.
  *
  * ROLES: every call takes one first, and judges it before it looks at anything else.
  *   1 looks: every call but rain, irrigation and close, which are refused 21.
@@ -63,11 +73,11 @@
  * RECOVERY is one call, open as role 3. After a cut between any two stores it finds the journal clean or torn, with the
  * ledger of all that was entered whole, which holds already; do its stores, then enter again what was cut. Its stores
  * may be cut in turn: open again, and it hands back those that are left. Until they are done the journal is torn, and
- * every entry, the plan, the loss and the probe are refused 10.
+ * every entry, the plan, the loss, the probe and a bank with that journal in it are refused 10.
  *
  * STACK, THREADS AND SIGNALS
- *   Stack on x86-64, beside what memcpy and memset take: the plan less than 2,800 bytes, the probe less than 1,500,
- *   every other call less than 1,300.
+ *   Stack on x86-64, beside what memcpy and memset take: balladsky_bank less than 6,000 bytes, the plan less than
+ *   2,800, the probe less than 1,500, every other call less than 1,300.
  *   Where memcpy and memset are bound lazily, the first call that uses one takes some 3 KB more, once: link with
  *   -z now, or statically, and it does not.
  *   No heap, no globals, no locks, no recursion, no system call: calls on different buffers may run at once in any
@@ -88,6 +98,7 @@ extern "C" {
 #define BALLADSKY_OUT 24            /* numbers of out */
 #define BALLADSKY_AREA 8192         /* bytes of the longest area */
 #define BALLADSKY_DEPTHS 275        /* numbers that every plan fits in */
+#define BALLADSKY_ANSWERS 200       /* numbers of a bank's answers: five for each of 40 blocks */
 #define BALLADSKY_ROWS 174          /* numbers that every table fits in: 29 rows of six */
 #define BALLADSKY_CLIMATE 60        /* bytes that every climate sheet fits in */
 #define BALLADSKY_BLOCK 27          /* bytes that every block sheet fits in */
@@ -108,9 +119,10 @@ enum {
     BALLADSKY_PROBE_LOW = 2     /* its supply voltage: the battery is low */
 };
 
-/* What out[0] says. A refusal is the first that applies of those that the call gives: 20 and 21, then 1 to 4 for the
- * climate sheet, then 1 to 4 for the block sheet, then the others, read downward but for 17. In brackets what out[1]
- * then is; else it is 0. None passes 8,192.
+/* What out[0] says. A refusal is the first that applies of those that the call gives: 20, 21 and 22, then 1 to 4 for
+ * the climate sheet, then 1 to 4 for the block sheet, then the others, read downward but for 17. A bank judges its
+ * blocks one after another, each by all that concerns one block, and 23 last. In brackets what out[1] then is; else it
+ * is 0. None passes 8,192.
  *
  * 1 to 4 are one sheet's: a length or a place is counted in that sheet, and out does not say which of the two it is. A
  * field keeps its number: 10 to 33 are the climate's, and where fields 1 and 20 are out of range, 4 comes with 20.
@@ -122,14 +134,20 @@ enum {
  * FF is refused 1 with n + 1, FF FF 1 with n + 2, three or more 2 with n + 2. 00 is the number 0, refused 4 with 41,
  * and two or more 3 with n + 1. Behind a climate sheet of n bytes any byte is refused 3 with n.
  * 15 is given by the plan, after 11 and before 16, where depths has fewer numbers than there are days from the open day
- * to the season's last; by the table, after 7, where rows has fewer than six numbers a row; by the writers, after 4
- * and after 7, where the buffer has fewer bytes than the sheet.
+ * to the season's last; by a bank, after a block's 11, where the block's part has; by the table, after 7, where rows
+ * has fewer than six numbers a row; by the writers, after 4 and after 7, where the buffer has fewer bytes than the
+ * sheet.
  * 17 is given by loss, right after 9 and before 10, where ky is outside 1 to 200: with ky 0 a damaged journal is
  * refused 9, and a torn one 17.
  * 18 and 19 are given by probe, after 11. 18 looks at each content, even where the other probe's is fine, and at
  * capacity: with capacity 0 two silent probes are refused 18.
  * 20 is given by every call, 21 by rain, irrigation and close: role 0 with an empty climate sheet is refused 20, and
- * rain of 0 by role 1 on a damaged journal 21. */
+ * rain of 0 by role 1 on a damaged journal 21.
+ * 22 and 23 are given by a bank: blocks 0 with an empty climate sheet is refused 22, and 23 comes after every refusal
+ * of every block. 1 to 11 and 15 of one block refuse the whole bank, first block first, with the number that the block
+ * alone would get; a length or a place is counted in that block's sheet or journal, and out does not say which block it
+ * is. Where the first block's part is too short and the second's sheet ends too early, that is 15. One block whose days
+ * are all closed is 11 for the whole bank: leave it out. 16 is one block's answer and never the bank's. */
 enum {
     BALLADSKY_ACCEPTED = 0,              /* accepted; open: the journal is clean */
     BALLADSKY_SHEET_ENDS = 1,            /* the climate sheet ends before its twenty-fourth number is whole, the block
@@ -155,7 +173,10 @@ enum {
     BALLADSKY_CONTENT_OUT_OF_RANGE = 18, /* a content is no number from 0 to 1, or the capacity is outside 1 to 6,000 */
     BALLADSKY_NO_CONTENT = 19,           /* neither probe gives a content */
     BALLADSKY_ROLE_OUT_OF_RANGE = 20,    /* the role is outside 1 to 3 */
-    BALLADSKY_ROLE_MAY_NOT_RECORD = 21   /* role 1 enters rain, irrigation or a close */
+    BALLADSKY_ROLE_MAY_NOT_RECORD = 21,  /* role 1 enters rain, irrigation or a close */
+    BALLADSKY_BANK_OUT_OF_RANGE = 22,    /* blocks or limit is outside 1 to 40, there are fewer than three lengths a
+                                            block, or lengths pass their buffer's end */
+    BALLADSKY_BLOCKS_DIFFER = 23         /* blocks differ in start month, start day, February's days or open day */
 };
 
 /* Opens the journal. Clean or torn: out[2] open day (days + 1 when all are closed), [3] depletion, [4] waiting rain,
@@ -203,6 +224,19 @@ void balladsky_probe(uint32_t role, const uint8_t *climate, size_t climate_lengt
 void balladsky_plan(uint32_t role, const uint8_t *climate, size_t climate_length, const uint8_t *block,
     size_t block_length, const uint8_t *area, size_t area_length, uint32_t *depths, size_t depths_length,
     uint32_t *out);
+
+/* Plans up to 40 blocks on one pump, in the order given and with one climate sheet for all. A day on which `limit` of
+ * the earlier blocks water is no turn day for the later ones, so that no day has more than `limit` waterings. Accepted:
+ * each block has five numbers of answers, block k, counted from 0, those from answers[5 * k]: 0, 0, how many depths are
+ * above 0, the net total, the gross total; its depths stand at the start of its part as the plan's do. Or 16, the first
+ * day that no choice on the turn days left to it holds, 0, 0, 0: such a block takes no valve, its part stays as it was,
+ * and the next one is planned. The rest of a part, the numbers behind the last part and those behind the last block's
+ * answer stay as they were; of out only [0] and [1] are written. Blocks may differ in the length of their season:
+ * valves are counted by season day, which is the same calendar day for all. It hands back no stores. Refusals 20, then
+ * 22, then 1 to 4 of the climate sheet, then block by block 1 to 11 and 15, then 23. */
+void balladsky_bank(uint32_t role, const uint8_t *climate, size_t climate_length, uint32_t blocks, uint32_t limit,
+    const uint32_t *lengths, size_t lengths_length, const uint8_t *sheets, size_t sheets_length, const uint8_t *areas,
+    size_t areas_length, uint32_t *depths, size_t depths_length, uint32_t *answers, uint32_t *out);
 
 /* The decade table. Accepted: rows holds six numbers a row: month, decade, need, planned rain, net, gross; out[2] how
  * many rows. Refusals 20, then 1 to 7, and 15. */

@@ -1,6 +1,6 @@
 /* A season of four days on the small pair of sheets, with two power cuts. Firmware opens as role 3, role 2 records,
- * and role 1 looks at the panel and presses the wrong key. Prints the decade table, what the soil probes say on day 3,
- * the ledger and the lost yield. */
+ * and role 1 looks at the panel and presses the wrong key. Prints the decade table, the plans of four such blocks on
+ * one pump, what the soil probes say on day 3, the ledger and the lost yield. */
 #include "balladsky.h"
 #include <stdio.h>
 #include <stdlib.h>
@@ -37,6 +37,42 @@ static void print_table(void) {
     printf("table: %u row%s\n", out[2], out[2] == 1 ? "" : "s");
     for (uint32_t i = 0; i < 6 * out[2]; i++)
         printf("%u%c", rows[i], i % 6 == 5 ? '\n' : ' ');
+}
+
+/* Blocks on one pump, bytes of each one's journal, and numbers of its part of the depths, a day more than the season
+ * has. */
+#define BLOCKS 4
+#define JOURNAL 8
+#define PART 5
+
+/* Four blocks with this sheet and blank journals, on a pump that feeds so many valves a day. What a part holds beside
+ * its depths is 7. */
+static void print_bank(uint32_t limit) {
+    uint32_t lengths[3 * BLOCKS], depths[BLOCKS * PART], answers[BALLADSKY_ANSWERS];
+    uint8_t sheets[BLOCKS * sizeof block], areas[BLOCKS * JOURNAL];
+    memset(areas, 0xFF, sizeof areas);
+    for (int k = 0; k < BLOCKS; k++) {
+        memcpy(sheets + k * sizeof block, block, sizeof block);
+        lengths[3 * k] = sizeof block;
+        lengths[3 * k + 1] = JOURNAL;
+        lengths[3 * k + 2] = PART;
+    }
+    for (int i = 0; i < BLOCKS * PART; i++)
+        depths[i] = 7;
+    balladsky_bank(BALLADSKY_LOOK, climate, sizeof climate, BLOCKS, limit, lengths, 3 * BLOCKS, sheets, sizeof sheets,
+        areas, sizeof areas, depths, BLOCKS * PART, answers, out);
+    must("bank");
+    printf("bank: %d blocks, %u valve%s a day\n", BLOCKS, limit, limit == 1 ? "" : "s");
+    for (int k = 0; k < BLOCKS; k++) {
+        const uint32_t *answer = answers + 5 * k;
+        if (answer[0] == BALLADSKY_ACCEPTED)
+            printf("block %d: %u watering%s, net %u, gross %u, depths", k + 1, answer[2], answer[2] == 1 ? "" : "s",
+                answer[3], answer[4]);
+        else
+            printf("block %d: refused %u %u, depths", k + 1, answer[0], answer[1]);
+        for (int i = 0; i < PART; i++)
+            printf(" %u%s", depths[PART * k + i], i + 1 == PART ? "\n" : "");
+    }
 }
 
 /* The first `done` stores of an entry, lowest place first. */
@@ -132,6 +168,7 @@ int main(void) {
     memset(area, 0xFF, sizeof area);
     come_up();
     print_table();
+    print_bank(1);
     press_rain(BALLADSKY_LOOK, 300);
     enter_with_cut("rain", balladsky_rain, 300, 2);
     close_day(1);

@@ -1,7 +1,8 @@
-//! Roles, pairs of sheets and soil probes by a separate reading of document 02, T-09, T-08 and T-07: what the library
-//! and the plain implementation are held against.
+//! Banks, roles, pairs of sheets and soil probes by a separate reading of document 02, T-10, T-09, T-08 and T-07: what
+//! the library and the plain implementation are held against.
+use crate::banks::{Bank, Block};
 use crate::plain::book::Call;
-use crate::plain::Reading;
+use crate::plain::{Reading, ANSWERS};
 use crate::random::{self, Probes, Sheets};
 
 /// The small sheet of document 01 as a pair.
@@ -216,3 +217,137 @@ pub const BY_ROLE: [ByRole; 48] = [
     without_climate(2, Call::Rain(5), &[1, 0]),
     without_climate(u32::MAX, Call::Close, NO_ROLE),
 ];
+
+/// A block of a bank: the small one with some fields changed and a blank journal of eight bytes, how many sevens its
+/// part has, its five numbers, and what its part then begins with.
+struct InBank { changes: &'static [(usize, u32)], room: usize, answer: [u32; 5], depths: &'static [u32] }
+
+const fn in_bank(changes: &'static [(usize, u32)], room: usize, answer: [u32; 5], depths: &'static [u32]) -> InBank {
+    InBank { changes, room, answer, depths }
+}
+
+/// Turns 127: on day 3, with that taken on days 2 and 4, and with those taken too.
+const FIRST: InBank = in_bank(&[], 5, [0, 0, 1, 700, 934], &[0, 0, 700, 0]);
+const SECOND: InBank = in_bank(&[], 5, [0, 0, 2, 1_200, 1_600], &[0, 200, 0, 1_000]);
+const THIRD: InBank = in_bank(&[], 5, [16, 3, 0, 0, 0], &[]);
+/// Turns 1, 2 and 10, whatever else waters.
+const TURN_1: InBank = in_bank(&[(40, 1)], 5, [16, 3, 0, 0, 0], &[]);
+const TURN_2: InBank = in_bank(&[(40, 2)], 5, [16, 4, 0, 0, 0], &[]);
+const TURNS_10: InBank = in_bank(&[(40, 10)], 5, [0, 0, 2, 1_200, 1_600], &[0, 200, 0, 1_000]);
+/// Turns 10 behind days 2 and 4.
+const NO_TURN: InBank = in_bank(&[(40, 10)], 5, [16, 3, 0, 0, 0], &[]);
+/// A late stage of 3 days: the first block, and behind one that waters on day 3.
+const LATE: InBank = in_bank(&[(6, 3)], 7, [0, 0, 2, 1_633, 2_178], &[0, 0, 700, 0, 933, 0]);
+const LATE_BEHIND: InBank = in_bank(&[(6, 3)], 7, [0, 0, 3, 2_000, 2_667], &[0, 200, 0, 1_000, 0, 800]);
+/// Parts of just the days left and of many more.
+const EXACT: InBank = in_bank(&[], 4, [0, 0, 1, 700, 934], &[0, 0, 700, 0]);
+const WIDE: InBank = in_bank(&[], 300, [0, 0, 2, 1_200, 1_600], &[0, 200, 0, 1_000]);
+
+/// A limit, and blocks in the order given.
+const BANKS: [(u32, &[InBank]); 13] = [
+    (1, &[FIRST, SECOND, THIRD, THIRD]),
+    (2, &[FIRST, FIRST, SECOND, SECOND, THIRD, THIRD]),
+    (1, &[TURN_2, TURNS_10, FIRST]),
+    (1, &[FIRST, LATE_BEHIND]),
+    (1, &[LATE, SECOND]),
+    (1, &[TURN_2, TURNS_10]),
+    (1, &[TURN_1, TURN_2, TURN_1, FIRST, SECOND]),
+    (1, &[TURNS_10, NO_TURN, FIRST, THIRD]),
+    (2, &[TURNS_10, FIRST, TURNS_10, FIRST, THIRD]),
+    (1, &[EXACT, WIDE, THIRD]),
+    (1, &[FIRST]),
+    (40, &[FIRST]),
+    (4, &[FIRST, FIRST, LATE, FIRST]),
+];
+
+/// These banks, and what depths and answers hold after the call where both held sevens.
+pub fn banks() -> Vec<(Bank, (Vec<u32>, Vec<u32>))> {
+    let answered = |&(limit, blocks): &(u32, &[InBank])| {
+        let made: Vec<Block> = blocks.iter().map(|b| small_block(b.changes, BLANK, b.room)).collect();
+        let (mut depths, mut answers) = (Vec::new(), Vec::new());
+        for b in blocks {
+            depths.extend(b.depths);
+            depths.extend(vec![7; b.room - b.depths.len()]);
+            answers.extend(b.answer);
+        }
+        answers.resize(ANSWERS, 7);
+        (Bank::of(&CLIMATE, limit, &made), (depths, answers))
+    };
+    BANKS.iter().map(answered).collect()
+}
+
+/// The small block with some fields changed, a journal and a part.
+fn small_block(changes: &[(usize, u32)], area: &[u8], room: usize) -> Block {
+    Block { sheet: random::sheets(&random::with(random::small(127), changes)).block, area: area.to_vec(), room }
+}
+
+/// Two such blocks, the second of which the bank's refusal is of, or differs from the first.
+fn beside_small(changes: &[(usize, u32)], area: &[u8], room: usize) -> Bank {
+    Bank::of(&CLIMATE, 1, &[small_block(&[], BLANK, 5), small_block(changes, area, room)])
+}
+
+/// Banks that are refused: the role, the bank, the refusal's number and the number returned with it.
+pub fn refused_banks() -> Vec<(u32, Bank, [u32; 2])> {
+    let small = || small_block(&[], BLANK, 5);
+    let (one, two) = (Bank::of(&CLIMATE, 1, &[small()]), Bank::of(&CLIMATE, 1, &[small(), small()]));
+    let changed = |bank: &Bank, change: fn(&mut Bank)| {
+        let mut bank = bank.clone();
+        change(&mut bank);
+        bank
+    };
+    let cut = |at: usize| Block { sheet: BLOCK[..at].to_vec(), ..small() };
+    let out_of_range = [
+        changed(&two, |b| b.blocks = 0), changed(&two, |b| b.blocks = 41), changed(&two, |b| b.blocks = u32::MAX),
+        changed(&two, |b| b.limit = 0), changed(&two, |b| b.limit = 41), changed(&two, |b| b.limit = u32::MAX),
+        // Two and one to whoever keeps 8 or 16 bits.
+        changed(&two, |b| b.blocks = 258), changed(&two, |b| b.limit = 65_537),
+        changed(&two, |b| b.sheets.truncate(31)), changed(&two, |b| b.areas.truncate(15)),
+        changed(&two, |b| b.depths = 9), changed(&two, |b| b.lengths.truncate(5)), changed(&two, |b| b.blocks = 3),
+        changed(&one, |b| b.lengths.clear()),
+        changed(&two, |b| (b.blocks, b.climate) = (0, Vec::new())),
+        changed(&two, |b| (b.limit, b.climate) = (41, Vec::new())),
+        changed(&two, |b| (b.depths, b.climate) = (9, Vec::new())),
+        // Sums that are the buffer's length to whoever keeps 32 bits.
+        changed(&two, |b| (b.sheets, b.lengths[0], b.lengths[3]) = (BLOCK.to_vec(), u32::MAX, 17)),
+        changed(&two, |b| (b.lengths[0], b.lengths[3]) = (16, u32::MAX - 15)),
+        changed(&two, |b| (b.lengths[1], b.lengths[4]) = (u32::MAX, 17)),
+        changed(&two, |b| (b.lengths[2], b.lengths[5]) = (u32::MAX, 11)),
+        changed(&two, |b| (b.lengths[2], b.lengths[5]) = (11, u32::MAX)),
+    ];
+    let refused = vec![
+        // The role comes first.
+        (0, changed(&two, |b| b.blocks = 0), [20, 0]), (4, two.clone(), [20, 0]),
+        (u32::MAX, changed(&two, |b| b.climate.clear()), [20, 0]),
+        // Then the climate sheet comes before the blocks.
+        (1, changed(&two, |b| b.climate.clear()), [1, 0]),
+        (1, changed(&two, |b| (b.climate[24], b.sheets[0]) = (0x80, 13)), [1, 25]),
+        (2, changed(&two, |b| (b.lengths[0], b.climate[1]) = (0, 12)), [4, 10]),
+        (3, changed(&two, |b| b.climate.push(0)), [3, 25]),
+        // A block's own, the first block's first.
+        (1, beside_small(&[(2, 32)], BLANK, 5), [4, 2]),
+        (1, beside_small(&[(3, 200), (4, 76)], LONG, 5), [5, 0]),
+        (1, beside_small(&[(35, 21)], LONG, 5), [6, 0]),
+        (1, beside_small(&[(39, 2_001)], LONG, 5), [7, 0]),
+        (1, beside_small(&[], LONG, 3), [8, 0]),
+        (1, beside_small(&[], DAMAGED, 3), [9, 0]),
+        (1, beside_small(&[], TORN, 3), [10, 0]),
+        (1, beside_small(&[], TORN_LATER, 3), [10, 2]),
+        (1, beside_small(&[], CLOSED, 0), [11, 0]),
+        (1, beside_small(&[], BLANK, 3), [15, 0]),
+        (1, Bank::of(&CLIMATE, 1, &[small(), cut(15)]), [1, 15]),
+        (1, Bank::of(&CLIMATE, 1, &[small_block(&[], BLANK, 3), cut(15)]), [15, 0]),
+        (1, Bank::of(&CLIMATE, 1, &[small_block(&[], CLOSED, 5), cut(0)]), [11, 0]),
+        (1, Bank::of(&CLIMATE, 1, &[small_block(&[], TORN_LATER, 5), small_block(&[], LONG, 5)]), [10, 2]),
+        // A place that moves between two sheets.
+        (1, changed(&two, |b| (b.lengths[0], b.lengths[3]) = (15, 17)), [1, 15]),
+        (1, changed(&two, |b| (b.lengths[0], b.lengths[3]) = (17, 15)), [4, 41]),
+        // Blocks that differ, behind every block's own.
+        (1, beside_small(&[(2, 10)], BLANK, 5), [23, 0]),
+        (2, beside_small(&[(1, 2)], BLANK, 5), [23, 0]),
+        (3, beside_small(&[], &[3, 1, 0xff, 0xff, 0xff, 0xff, 0xff, 0xff], 5), [23, 0]),
+        (1, beside_small(&[(41, 29)], BLANK, 5), [23, 0]),
+        (1, Bank::of(&CLIMATE, 1, &[small(), small_block(&[(2, 10)], BLANK, 5), cut(15)]), [1, 15]),
+        (1, Bank::of(&CLIMATE, 1, &[small_block(&[(40, 2)], BLANK, 5), small_block(&[(2, 10)], BLANK, 5)]), [23, 0]),
+    ];
+    out_of_range.into_iter().map(|bank| (1, bank, [22, 0])).chain(refused).collect()
+}

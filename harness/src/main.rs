@@ -1,21 +1,23 @@
 //! Compares the static library with the plain implementation on random cases: pairs of sheets valid, cut, exchanged,
 //! damaged and written, journals clean, torn and damaged, areas of 0 to 8,193 bytes, histories with a cut after every
-//! store, water contents of any bits. The whole of `out` and of each lent buffer is compared, noise beyond the answer
-//! included. What role 3 asks is asked again, but for most water contents, by a role drawn from 0 to 4 and
-//! 4,294,967,295, which must be answered as document 02 makes it of role 3's answer. Each accepted pair is read as one
-//! sheet too, histories with roles are compared with the book, and roles, pairs, openings, lost yield, soil probes and
-//! seventeenth numbers with document 02's cases. In every case each buffer that the library is given ends before a
-//! guard page or begins behind one, so that a read or write past it is a fault, and sheets, area and fields must be as
-//! they were. Then lengths from 2^16 to 2^32 and a little more, which are other lengths to whoever keeps fewer bits.
-//! Each refusal of each call must have come up, 1 to 4 for either sheet. Prints its seed; stops with status 1 at the
-//! first difference or fault.
+//! store, water contents of any bits, banks of 1 to 40 blocks. The whole of `out` and of each lent buffer is compared,
+//! noise beyond the answer included. What role 3 asks is asked again, but for most water contents, by a role drawn from
+//! 0 to 4 and 4,294,967,295, which must be answered as document 02 makes it of role 3's answer. Each accepted pair is
+//! read as one sheet too, histories with roles are compared with the book, and banks, roles, pairs, openings, lost
+//! yield, soil probes and seventeenth numbers with document 02's cases. In every case each buffer that the library is
+//! given ends before a guard page or begins behind one, so that a read or write past it is a fault, and sheets, areas,
+//! lengths and fields must be as they were. Then lengths from 2^16 to 2^32 and a little more, which are other lengths
+//! to whoever keeps fewer bits. Each refusal of each call must have come up, 1 to 4 for either sheet, and of a bank
+//! each block's own for the first block and for a later one. Prints its seed; stops with status 1 at the first
+//! difference or fault.
 //!
 //!     cargo run --release --manifest-path harness/Cargo.toml [SEED]
 use balladsky::{self as library, Out, OUT};
 use harness::asks::{by_plain, by_rule, noisy, written_by_plain, Answer, Ask, Asked, Made, Pair, Right};
+use harness::banks::{self, Bank, Banked};
 use harness::memory::{self, Guarded, Side};
 use harness::plain::book::{self, Book, Call};
-use harness::plain::{self, one_sheet, Opening, Reading};
+use harness::plain::{self, one_sheet, Opening, Reading, ANSWERS};
 use harness::random::{self, Dice, Fields, Probes, Sheets, Writer};
 use harness::{cases, numbers};
 use std::ops::RangeInclusive;
@@ -45,12 +47,24 @@ fn written_by_library(writer: Writer, role: u32, fields: &[u32], sheet: &mut [u8
     })
 }
 
+/// What a bank is given, in the library's order.
+type Given<'a> = (&'a [u8], u32, u32, &'a [u32], &'a [u8], &'a [u8]);
+
+fn banked_by_library(given: Given, role: u32, depths: &mut [u32], answers: &mut [u32; ANSWERS], out: &mut Out) {
+    let (climate, blocks, limit, lengths, sheets, areas) = given;
+    let message = || format!("the library's bank by role {role} touched what it was not given\n{}", shown_bank(given));
+    memory::watched(&message, || {
+        library::bank(role, climate, blocks, limit, lengths, sheets, areas, depths, answers, out)
+    })
+}
+
 /// The calls by kind, and the answers of each: 0, its refusals, and 10 from open. All must come up, and no others.
-const CALLS: [(&str, &[RangeInclusive<usize>]); 10] = [
+const CALLS: [(&str, &[RangeInclusive<usize>]); 11] = [
     ("open", &[0..=10, 20..=20]), ("rain", &[0..=14, 20..=21]), ("irrigation", &[0..=14, 20..=21]),
     ("close", &[0..=11, 14..=14, 20..=21]), ("loss", &[0..=10, 17..=17, 20..=20]), ("probe", &[0..=11, 18..=20]),
     ("plan", &[0..=11, 15..=16, 20..=20]), ("table", &[0..=7, 15..=15, 20..=20]),
-    ("write climate", &[0..=0, 4..=4, 15..=15, 20..=20]), ("write block", &[0..=0, 4..=7, 15..=15, 20..=20]),
+    ("bank", &[0..=11, 15..=15, 20..=20, 22..=23]), ("write climate", &[0..=0, 4..=4, 15..=15, 20..=20]),
+    ("write block", &[0..=0, 4..=7, 15..=15, 20..=20]),
 ];
 
 /// At most 8,193 bytes are shown.
@@ -61,6 +75,28 @@ fn hex(bytes: &[u8]) -> String {
 fn given((climate, block): Pair, area: &[u8]) -> String {
     let shown = |name, bytes: &[u8]| format!("{name} ({} bytes) {}", bytes.len(), hex(bytes));
     [shown("climate", climate), shown("block", block), shown("area", area)].join("\n")
+}
+
+fn shown_bank((climate, blocks, limit, lengths, sheets, areas): Given) -> String {
+    let shown = |name, bytes: &[u8]| format!("{name} ({} bytes) {}", bytes.len(), hex(bytes));
+    let bytes = [shown("climate", climate), shown("sheets", sheets), shown("areas", areas)].join("\n");
+    let first = &lengths[..lengths.len().min(130)];
+    format!("{blocks} blocks, limit {limit}, {} lengths {first:?}\n{bytes}", lengths.len())
+}
+
+fn differ_banked(what: &str, bank: &Bank, role: u32, left: &Banked, right: &Banked) -> ! {
+    println!("DIFFERENCE: {what}, bank by role {role}, {} depths\n{}", bank.depths, shown_bank(parameters(bank)));
+    println!("library {:?}\nother   {:?}", left.0, right.0);
+    for (name, left, right) in [("answers", &left.1.1, &right.1.1), ("depths", &left.1.0, &right.1.0)] {
+        if let Some(i) = (0..left.len()).find(|&i| left[i] != right[i]) {
+            println!("{name}, number {i}: library {}, other {}", left[i], right[i]);
+        }
+    }
+    std::process::exit(1)
+}
+
+fn parameters(b: &Bank) -> Given<'_> {
+    (&b.climate, b.blocks, b.limit, &b.lengths, &b.sheets, &b.areas)
 }
 
 fn differ(what: &str, pair: Pair, area: &[u8], (role, ask): Asked, left: &Answer, right: &Answer) -> ! {
@@ -80,12 +116,19 @@ fn differ_written(what: &str, writer: Writer, role: u32, fields: &[u32], left: &
 
 /// A place beside guard pages for each buffer that the library is given, and how many ended before one and began behind
 /// one.
-struct Guards { climate: Guarded, block: Guarded, area: Guarded, out: Guarded, lent: Guarded, ended: u64, began: u64 }
+struct Guards {
+    climate: Guarded, block: Guarded, area: Guarded, out: Guarded, lent: Guarded, lengths: Guarded, answers: Guarded,
+    ended: u64, began: u64,
+}
 
 impl Guards {
     fn new() -> Guards {
         let room = || Guarded::new(8_193);
-        Guards { climate: room(), block: room(), area: room(), out: room(), lent: room(), ended: 0, began: 0 }
+        let large = || Guarded::new(41 * 8_193); // forty areas, or as many parts
+        Guards {
+            climate: room(), block: room(), area: large(), out: room(), lent: large(), lengths: room(), answers: room(),
+            ended: 0, began: 0,
+        }
     }
 
     /// Counts the buffers of a call. A bit of `sides` for each, from the lowest, says which end is at a guard page.
@@ -121,11 +164,35 @@ impl Guards {
         assert_eq!(f, fields, "the fields were written");
         (*out, s.to_vec())
     }
+
+    /// A bank's answer over `before`, likewise.
+    fn bank(&mut self, b: &Bank, role: u32, before: &Banked, sides: u32) -> Banked {
+        self.count(sides, 7);
+        let side = |bit: u32| if sides >> bit & 1 == 0 { Side::Ends } else { Side::Begins };
+        let (c, l) = (self.climate.bytes(&b.climate, side(0)), self.lengths.numbers(&b.lengths, side(1)));
+        let (s, a) = (self.block.bytes(&b.sheets, side(2)), self.area.bytes(&b.areas, side(3)));
+        let depths = self.lent.numbers(&before.1.0, side(4));
+        let answers: &mut [u32; ANSWERS] = self.answers.numbers(&before.1.1, side(5)).try_into().unwrap();
+        let out: &mut Out = self.out.numbers(&before.0, side(6)).try_into().unwrap();
+        banked_by_library((c, b.blocks, b.limit, l, s, a), role, depths, answers, out);
+        let answer = (*out, (depths.to_vec(), answers.to_vec()));
+        if (&*c, &*l, &*s, &*a) != (&b.climate[..], &b.lengths[..], &b.sheets[..], &b.areas[..]) {
+            differ_banked("what is only read was written", b, role, &answer, before);
+        }
+        answer
+    }
 }
+
+/// Of the banks: each refusal of a block, the first's and a later one's; blocks planned, refused 16, and those of
+/// either kind that are answered otherwise than alone.
+#[derive(Default)]
+struct Blocks { first: [u64; 16], later: [u64; 16], planned: u64, refused: u64, moved: u64 }
 
 /// Answers by call and number, how many of 1 to 4 were the climate sheet's, and how often an accepted pair was read as
 /// one sheet too.
-struct Tally { cases: u64, answers: [[u64; 22]; 10], by_climate: [[u64; 5]; 8], as_one: u64, guards: Guards }
+struct Tally {
+    cases: u64, answers: [[u64; 24]; 11], by_climate: [[u64; 5]; 9], blocks: Blocks, as_one: u64, guards: Guards,
+}
 
 impl Tally {
     /// Two cases: role 3, whose answer comes back, then any role.
@@ -213,8 +280,70 @@ impl Tally {
             differ_written("plain implementation", writer, role, fields, &left, &right);
         }
         self.cases += 1;
-        self.answers[8 + writer as usize][left.0[0] as usize] += 1;
+        self.answers[9 + writer as usize][left.0[0] as usize] += 1;
         left
+    }
+
+    /// A bank, over noise: role 3, whose answer comes back, then that role with each buffer's other end at a guard
+    /// page.
+    fn bank(&mut self, g: &mut Dice, bank: &Bank, role: u32) -> Banked {
+        let noise = g.next() as u32;
+        let before = bank.before(noise);
+        let third = self.banked(bank, 3, &before, noise >> 25);
+        let other = self.banked(bank, role, &before, !noise >> 25);
+        let want = by_rule(role, Right::Look, &third, &before);
+        if other != want {
+            differ_banked("document 02's rule of roles", bank, role, &other, &want);
+        }
+        self.blocks_of(bank, &before, &third);
+        third
+    }
+
+    /// One case of a bank.
+    fn banked(&mut self, bank: &Bank, role: u32, before: &Banked, sides: u32) -> Banked {
+        let (left, mut right) = (self.guards.bank(bank, role, before, sides), before.clone());
+        banks::by_plain(bank, role, &mut right);
+        if left != right {
+            differ_banked("plain implementation", bank, role, &left, &right);
+        }
+        let number = left.0[0] as usize;
+        if (1..=4).contains(&number) {
+            self.by_climate[8][number] += plain::read_sheets(&bank.climate, &cases::BLOCK).is_err() as u64;
+        }
+        self.cases += 1;
+        self.answers[8][number] += 1;
+        left
+    }
+
+    /// A bank's blocks, each asked for the plan that it has alone: the first refusal but 16 is the bank's, and with a
+    /// limit no less than the blocks their answers and parts are the same.
+    fn blocks_of(&mut self, bank: &Bank, before: &Banked, answer: &Banked) {
+        let number = answer.0[0] as usize;
+        match number {
+            1..=4 if plain::read_sheets(&bank.climate, &cases::BLOCK).is_err() => return,
+            20.. => return,
+            _ => {}
+        }
+        for (k, (block, at)) in bank.parts().unwrap().into_iter().enumerate() {
+            let mut depths = before.1.0[at..at + block.room].to_vec();
+            let p = plain::plan(1, &bank.climate, &block.sheet, &block.area, &mut depths);
+            if ![0, 16].contains(&p.number) {
+                assert_eq!(answer.0[..2], [p.number, p.value as u32], "block {k} of {bank:02x?}");
+                let seen = if k == 0 { &mut self.blocks.first } else { &mut self.blocks.later };
+                seen[number] += 1;
+                return;
+            }
+            if number != 0 {
+                continue;
+            }
+            let alone = [p.number, p.value as u32, p.waterings, p.net, p.gross];
+            let (five, part) = (&answer.1.1[5 * k..5 * k + 5], &answer.1.0[at..at + block.room]);
+            let same = (five, part) == (&alone, &depths);
+            assert!(same || bank.limit < bank.blocks, "block {k} is not as it is alone: {bank:02x?}");
+            self.blocks.moved += !same as u64;
+            self.blocks.planned += (five[0] == 0) as u64;
+            self.blocks.refused += (five[0] == 16) as u64;
+        }
     }
 
     /// All calls on a pair of sheets.
@@ -486,6 +615,46 @@ fn journals(t: &mut Tally, g: &mut Dice) {
         let sheets = random::sheets(&random::fields(g, if round % 4 == 0 { plain::DAYS as u32 } else { 12 }));
         let area = random::any_journal(g, &sheets, 1_300);
         t.all(g, &sheets, &area);
+    }
+}
+
+/// Banks by document 02, T-10, over sevens and over noise, by every role; then any, also of 40 blocks in long seasons.
+fn bank_calls(t: &mut Tally, g: &mut Dice) {
+    for (bank, want) in cases::banks() {
+        let before = (noisy(7), (vec![7; bank.depths], vec![7; ANSWERS]));
+        for (role, sides) in (1..=3).flat_map(|role| [(role, 0), (role, u32::MAX)]) {
+            let got = t.banked(&bank, role, &before, sides);
+            let mut want = (before.0, want.clone());
+            want.0[..2].copy_from_slice(&[0, 0]);
+            if got != want {
+                differ_banked("document 02", &bank, role, &got, &want);
+            }
+        }
+        for role in random::ROLES {
+            t.bank(g, &bank, role);
+            // A limit above the blocks, then lengths, bytes and depths behind the last block's.
+            t.bank(g, &Bank { limit: 40, ..bank.clone() }, role);
+            let mut more = bank.clone();
+            more.lengths.extend([u32::MAX; 3]);
+            more.sheets.push(1);
+            more.areas.push(0);
+            more.depths += 1;
+            let behind = t.bank(g, &more, role);
+            assert_eq!((&behind.0[..2], &behind.1.1[..5]), (&[0, 0][..], &want.1[..5]), "{more:02x?}");
+        }
+    }
+    for (role, bank, want) in cases::refused_banks() {
+        let noise = g.next() as u32;
+        let before = bank.before(noise);
+        let got = t.banked(&bank, role, &before, noise >> 25);
+        assert_eq!((&got.0[..2], &got.1), (&want[..], &before.1), "role {role}, {bank:02x?}");
+        for role in random::ROLES {
+            t.bank(g, &bank, role);
+        }
+    }
+    for _ in 0..150_000 {
+        let (bank, role) = (random::bank(g), g.pick(&random::ROLES));
+        t.bank(g, &bank, role);
     }
 }
 
@@ -833,13 +1002,20 @@ fn ends(lent: &[u32]) -> Vec<u32> {
     [&lent[..k], &lent[lent.len() - k..]].concat()
 }
 
-/// The small pair, with 28 days of February or 29, a blank area and two lent buffers, one for each implementation, with
-/// room for 2^32 elements and more. To whoever keeps fewer bits of such a length a sheet is whole or ends early, and
-/// the area and the lent buffer are short.
+/// The small pair, with 28 days of February or 29, a blank area, a bank's lengths and two lent buffers, one for each
+/// implementation, with room for 2^32 elements and more. To whoever keeps fewer bits of such a length a sheet is whole
+/// or ends early, and the area, the lengths and the lent buffer are short.
 struct Long {
     climate: &'static mut [u8], block: &'static mut [u8], february: u32, area: &'static mut [u8],
-    lent: [&'static mut [u32]; 2], cases: u64,
+    lengths: &'static mut [u32], lent: [&'static mut [u32]; 2], cases: u64,
 }
+
+/// How long a bank's climate, lengths, sheets, areas and depths are.
+#[derive(Clone, Copy, Debug)]
+struct Sizes { climate: usize, lengths: usize, sheets: usize, areas: usize, depths: usize }
+
+/// A bank's verdict and answers, and what the depths begin and end with.
+type Wanted<'a> = ([u32; 2], &'a [u32], &'a [u32], &'a [u32]);
 
 /// The calls on a journal; a plan of the small pair takes four numbers.
 const ON_JOURNAL: [Ask; 7] = [
@@ -855,7 +1031,7 @@ impl Long {
         block[..cases::BLOCK.len()].copy_from_slice(&cases::BLOCK);
         area[..8_192].fill(0xff);
         let lent = [memory::long_numbers(most), memory::long_numbers(most)];
-        Long { climate, block, february: 28, area, lent, cases: 0 }
+        Long { climate, block, february: 28, area, lengths: memory::long_numbers(most), lent, cases: 0 }
     }
 
     /// Behind the small block's sixteen numbers stands 00, or 29 days of February and then 00.
@@ -945,6 +1121,68 @@ impl Long {
         sheet[length - ENDS..].fill(0);
     }
 
+    /// A bank with such lengths by each role.
+    fn bank(&mut self, lengths: &[u32], n: Sizes, (verdict, answers, first, last): Wanted) {
+        self.lengths[..lengths.len()].copy_from_slice(lengths);
+        let blocks = lengths.len() as u32 / 3;
+        let before: Banked = (noisy(7), ([[8; ENDS], [9; ENDS]].concat(), vec![7; ANSWERS]));
+        let mut third = before.clone();
+        third.0[..2].copy_from_slice(&verdict);
+        third.1.0[..first.len()].copy_from_slice(first);
+        third.1.0[2 * ENDS - last.len()..].copy_from_slice(last);
+        third.1.1[..answers.len()].copy_from_slice(answers);
+        for role in random::ROLES {
+            let (climate, lengths) = (&self.climate[..n.climate], &self.lengths[..n.lengths]);
+            let (sheets, areas) = (&self.block[..n.sheets], &self.area[..n.areas]);
+            let want = by_rule(role, Right::Look, &third, &before);
+            for (which, name) in ["library", "plain implementation"].into_iter().enumerate() {
+                let (mut out, mut made) = (noisy(7), [7; ANSWERS]);
+                let depths = &mut self.lent[which][..n.depths];
+                depths[..ENDS].fill(8);
+                depths[n.depths - ENDS..].fill(9);
+                if which == 0 {
+                    banked_by_library((climate, blocks, 1, lengths, sheets, areas), role, depths, &mut made, &mut out);
+                } else {
+                    let v = plain::bank(role, climate, blocks, 1, lengths, sheets, areas, depths, &mut made);
+                    out[..2].copy_from_slice(&[v.number, v.value as u32]);
+                }
+                let got = (out, (ends(depths), made.to_vec()));
+                assert!(got == want, "{name}, bank by role {role}, {:?}, {n:?}: {:?}", &lengths[..3], got.0);
+            }
+            self.cases += 1;
+        }
+    }
+
+    /// One small block in buffers of which one is so long; a sheet, a journal or a part that is so long itself, as far
+    /// as a length goes; and a second block whose part stands behind such a part.
+    fn banks(&mut self, length: usize) {
+        let (climate, block) = self.whole();
+        let n = Sizes { climate, lengths: 3, sheets: block, areas: 64, depths: 1_000 };
+        let (sheet, most) = (block as u32, u32::try_from(length).unwrap_or(u32::MAX));
+        let part = most as usize;
+        let (small, planned) = ([sheet, 64, 5], ([0, 0], &[0, 0, 1, 700, 934][..], &[0, 0, 700, 0][..], &[][..]));
+        let refused = |number, value| ([number, value], &[][..], &[][..], &[][..]);
+        self.bank(&small, Sizes { climate: length, ..n }, refused(3, 25));
+        self.bank(&small, Sizes { lengths: length, ..n }, planned);
+        self.bank(&small, Sizes { sheets: length, ..n }, planned);
+        self.bank(&small, Sizes { areas: length, ..n }, planned);
+        self.bank(&small, Sizes { depths: length, ..n }, planned);
+        self.bank(&[most, 64, 5], Sizes { sheets: length, ..n }, refused(3, 17));
+        self.bank(&[most, 64, 5], Sizes { sheets: part - 1, ..n }, refused(22, 0));
+        self.bank(&[sheet, most, 5], Sizes { areas: length, ..n }, refused(8, 0));
+        self.bank(&[sheet, most, 5], Sizes { areas: part - 1, ..n }, refused(22, 0));
+        self.bank(&[sheet, 64, most], Sizes { depths: part, ..n }, planned);
+        self.bank(&[sheet, 64, most], Sizes { depths: part - 1, ..n }, refused(22, 0));
+        self.block.copy_within(..block, block);
+        let two = Sizes { lengths: 6, sheets: 2 * block, areas: 72, depths: part + 5, ..n };
+        let lengths = [sheet, 64, most, sheet, 8, 5];
+        let answers = [0, 0, 1, 700, 934, 0, 0, 2, 1_200, 1_600];
+        self.bank(&lengths, two, ([0, 0], &answers, &[0, 0, 700, 0], &[0, 200, 0, 1_000, 9]));
+        self.bank(&lengths, Sizes { depths: part + 4, ..two }, refused(22, 0));
+        self.bank(&lengths, Sizes { depths: 1_000, ..two }, refused(22, 0));
+        self.block[block..2 * block].fill(0);
+    }
+
     /// The plan and the table of the small pair, as document 01 prints them.
     fn buffers(&mut self, count: usize) {
         let rows = [1, 1, 700, 0, 700, 934, 1, 2, 800, 0, 800, 1_067];
@@ -978,6 +1216,9 @@ fn long_lengths() -> u64 {
         for more in [0, 3] {
             long.buffers(base + more);
         }
+        for more in [0, 5, 16, 17, 64] {
+            long.banks(base + more);
+        }
     }
     long.cases
 }
@@ -986,9 +1227,12 @@ fn main() {
     let seed = std::env::args().nth(1).map_or(20_261_115, |s| s.parse().expect("the seed is a number"));
     println!("seed {seed}");
     let mut g = Dice(seed);
-    let mut t = Tally { cases: 0, answers: [[0; 22]; 10], by_climate: [[0; 5]; 8], as_one: 0, guards: Guards::new() };
+    let mut t = Tally {
+        cases: 0, answers: [[0; 24]; 11], by_climate: [[0; 5]; 9], blocks: Blocks::default(), as_one: 0,
+        guards: Guards::new(),
+    };
     memory::report_faults();
-    let parts: [(&str, fn(&mut Tally, &mut Dice)); 14] = [
+    let parts: [(&str, fn(&mut Tally, &mut Dice)); 15] = [
         ("pairs of sheets, valid and damaged", pairs), ("pairs cut, changed and extended at every place", places),
         ("pairs by document 02", pairs_by_document), ("sheets written", writers),
         ("roles by document 02, every call by every role", roles),
@@ -1000,6 +1244,7 @@ fn main() {
         ("soil probes, cases by a separate reading and every value at an edge", probes),
         ("water contents by their bits", contents),
         ("plans, tables, losses and probes of long seasons", plans),
+        ("banks by document 02, and of 1 to 40 blocks", bank_calls),
     ];
     for (name, part) in parts {
         let before = t.cases;
@@ -1028,6 +1273,13 @@ fn main() {
             let (climate, both) = (by_climate[number], seen[number]);
             assert!(0 < climate && climate < both, "{name}, {number} for the climate sheet: {climate} of {both}");
         }
+    }
+    let Blocks { first, later, planned, refused, moved } = t.blocks;
+    println!("banks' blocks: {planned} planned, {refused} refused 16, {moved} of both otherwise than alone");
+    assert!(planned > 0 && refused > 0 && moved > 0, "banks' blocks");
+    for (name, seen) in [("the first block", first), ("a later block", later)] {
+        println!("banks refused for {name}, 1 to 11: {:?}, 15: {}", &seen[1..=11], seen[15]);
+        assert!((1..=11).chain([15]).all(|number| seen[number] > 0), "a refusal of {name} that did not come up");
     }
     println!("{} cases, library and plain implementation agree on every number", t.cases);
 }

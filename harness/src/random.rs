@@ -1,4 +1,5 @@
-//! Random sheets, journals and probes, from one seed.
+//! Random sheets, journals, probes and banks, from one seed.
+use crate::banks::{self, Bank};
 use crate::cases;
 use crate::plain::book;
 use crate::plain::*;
@@ -187,9 +188,35 @@ pub fn ordinary(g: &mut Dice, days: u32) -> Fields {
     f[36] = g.of(5, 80);
     f[37] = g.of(1, 100);
     f[39] = g.pick(&[127, 0, 1, 85]).max(g.of(0, 127));
-    let day1 = f[33] * (f[34] + (f[35] - f[34]) / (f[2] + f[3]));
+    let day1 = first_total(&f);
     f[38] = if g.one_in(3) { day1 } else { g.of(0, day1) };
     f
+}
+
+/// Such fields whose needs are a third of the ready water up to all of it, so that many waterings are wanted.
+pub fn thirsty(g: &mut Dice, days: u32) -> Fields {
+    let mut f = fields(g, days);
+    f[33] = g.pick(&[20, 60, 140]);
+    f[35] = g.of(10, 60);
+    f[34] = g.of(10, f[35]);
+    if g.one_in(2) {
+        f[36] = g.of(30, 80);
+    }
+    let day1 = first_total(&f);
+    let cap = (day1 * f[36] / 100 / g.of(1, 3)).min(1_500);
+    let dry = g.one_in(2);
+    for i in 9..21 {
+        f[i] = g.of(cap / 3, cap);
+        f[12 + i] /= if dry { 20 } else { 1 };
+    }
+    f[38] = g.of(0, day1 * f[36] / 100);
+    f[39] = g.of(0, 127) | g.of(0, 127);
+    f
+}
+
+/// The total water of day 1.
+fn first_total(f: &Fields) -> u32 {
+    f[33] * (f[34] + (f[35] - f[34]) / (f[2] + f[3]))
 }
 
 /// Four stages of so many days in all.
@@ -412,6 +439,13 @@ pub fn probes(g: &mut Dice) -> Probes {
 
 /// A clean journal made with the calls themselves.
 pub fn journal(g: &mut Dice, sheets: &Sheets, length: usize) -> (Vec<u8>, Ledger) {
+    let days = sheets.season().days;
+    let closed = if g.one_in(2) { 0 } else if g.one_in(6) { days } else { g.of(0, days) };
+    journal_to(g, sheets, length, closed)
+}
+
+/// Such a journal with so many days closed.
+fn journal_to(g: &mut Dice, sheets: &Sheets, length: usize, closed: u32) -> (Vec<u8>, Ledger) {
     let (days, mut area) = (sheets.season().days, vec![0xff; length]);
     let mut at = 0;
     let mut put = |area: &mut Vec<u8>, e| {
@@ -419,7 +453,6 @@ pub fn journal(g: &mut Dice, sheets: &Sheets, length: usize) -> (Vec<u8>, Ledger
         area[at..at + bytes.len()].copy_from_slice(&bytes);
         at += bytes.len();
     };
-    let closed = if g.one_in(2) { 0 } else if g.one_in(6) { days } else { g.of(0, days) };
     for day in 1..=closed {
         if g.one_in(4) {
             put(&mut area, book::Entry::Rain(g.pick(&[1, 40, 900, 5_000])));
@@ -478,4 +511,136 @@ pub fn any_journal(g: &mut Dice, sheets: &Sheets, length: usize) -> Vec<u8> {
         area[at] = g.next() as u8;
     }
     area
+}
+
+/// Fields of a block that goes with others: their climate, start and February, and more days than they have closed.
+fn beside_others(g: &mut Dice, first: &Fields, days: u32, closed: u32) -> Fields {
+    let mut f = match g.of(0, 3) {
+        0 => fields(g, days),
+        1 => thirsty(g, days),
+        // The first block with other turns, crop and opening.
+        _ => {
+            let mut f = *first;
+            f[39] = g.pick(&[127, 127, 85, 42]).min(g.of(0, 127) | g.of(0, 127) | g.of(0, 127));
+            (f[6], f[7], f[8]) = (g.of(10, 120), g.of(10, 120), g.of(10, 120));
+            f[38] = g.of(0, f[38]);
+            f
+        }
+    };
+    (f[0], f[1], f[40]) = (first[0], first[1], first[40]);
+    f[9..33].copy_from_slice(&first[9..33]);
+    if f[2..6].iter().sum::<u32>() <= closed {
+        f[2..6].copy_from_slice(&first[2..6]);
+        f[38] = f[38].min(first_total(&f));
+    }
+    f
+}
+
+/// A clean journal with so many days closed, and a few places behind it.
+fn block_area(g: &mut Dice, sheets: &Sheets, closed: u32) -> Vec<u8> {
+    let (mut area, l) = journal_to(g, sheets, 1_900, closed);
+    area.truncate(l.place + g.pick(&[0, 0, 1, 8, 30]));
+    area
+}
+
+/// One such block spoilt: its sheet, its journal, its part, or what it should have in common with the others.
+fn spoil_block(g: &mut Dice, block: &mut banks::Block, f: &Fields, days: u32, closed: u32) {
+    let sheets = sheets(f);
+    let left = (sheets.season().days - closed) as usize;
+    let mut other = *f;
+    match g.of(0, 12) {
+        0 => block.sheet = any_block(g, days),
+        1 => spoil_sheet(g, &mut block.sheet),
+        2 => {
+            let spoilt = spoilt_fields(g, days);
+            (other[2], other[4], other[5]) = (spoilt[2], spoilt[4], spoilt[5]);
+            (other[33], other[34], other[35], other[38]) = (spoilt[33], spoilt[34], spoilt[35], spoilt[38]);
+            block.sheet = self::sheets(&other).block;
+        }
+        3 => block.area = any_journal(g, &sheets, 1_300),
+        4 | 5 => {
+            let (area, l) = journal_to(g, &sheets, 1_900, closed);
+            block.area = [&area[..l.place], &tail(g, l.day), &[0xff; 4]].concat();
+        }
+        6 => block.area = block_area(g, &sheets, closed + left as u32),
+        7 => block.area = vec![0xff; if g.one_in(4) { 8_193 } else { 8_192 }],
+        8 => block.room = left.saturating_sub(g.pick(&[1, 1, 2, 300])),
+        9 => block.area = block_area(g, &sheets, closed.saturating_sub(1)),
+        10 if left > 1 => block.area = block_area(g, &sheets, closed + 1),
+        11 => {
+            other[40] = 57 - other[40];
+            block.sheet = self::sheets(&other).block;
+        }
+        _ => {
+            let field = g.of(0, 1) as usize;
+            other[field] = if other[field] > 1 { other[field] - 1 } else { 2 };
+            block.sheet = self::sheets(&other).block;
+        }
+    }
+}
+
+/// Lengths that are odd: one or two too long or too short, sums that are the same to whoever keeps 32 bits, too few,
+/// and buffers that are short.
+fn spoil_lengths(g: &mut Dice, b: &mut Bank) {
+    let blocks = b.lengths.len() as u32 / 3;
+    let at = g.of(0, 3 * blocks - 1) as usize;
+    let other = at % 3 + 3 * g.of(0, blocks - 1) as usize;
+    match g.of(0, 9) {
+        0 => b.lengths[at] = g.pick(&[u32::MAX, 0x8000_0000, 8_192, 0]),
+        1 => b.lengths[at] = b.lengths[at].wrapping_add(g.pick(&[1, u32::MAX])),
+        2 | 3 => {
+            let length = b.lengths[at];
+            let moved = g.pick(&[1, 1, 2, 16, length, length + 1, 0x8000_0000, u32::MAX]);
+            b.lengths[at] = length.wrapping_sub(moved);
+            b.lengths[other] = b.lengths[other].wrapping_add(moved);
+        }
+        4 => b.lengths.truncate(at),
+        5 => b.sheets.truncate(b.sheets.len() - 1),
+        6 => b.areas.truncate(b.areas.len().saturating_sub(1)),
+        7 => b.depths = b.depths.saturating_sub(1),
+        8 => b.blocks = g.pick(&[0, 41, blocks + 1, blocks.saturating_sub(1), 256 + blocks, 65_536 + blocks, u32::MAX]),
+        _ => b.limit = g.pick(&[0, 41, 42, 257, 65_537, 0x8000_0001, u32::MAX]),
+    }
+}
+
+/// A bank of 1 to 40 blocks, mostly a few. One block in fifteen of a small bank is spoilt, one bank in five has odd
+/// lengths, one in twelve another climate sheet; one in three has lengths, bytes and depths behind the last block's.
+pub fn bank(g: &mut Dice) -> Bank {
+    let count = match g.of(0, 31) {
+        0 => 40,
+        1 => g.of(7, 39),
+        2..=5 => 1,
+        _ => g.of(2, 6),
+    };
+    let days = if g.one_in(24) { DAYS as u32 } else { g.pick(&[4, 12, 12, 30]) };
+    let first = if g.one_in(4) { fields(g, days) } else { thirsty(g, days) };
+    let most = first[2..6].iter().sum::<u32>() - 1;
+    let closed = if g.one_in(2) { 0 } else { g.of(0, most) };
+    let mut blocks = Vec::new();
+    for k in 0..count {
+        let f = if k == 0 { first } else { beside_others(g, &first, days, closed) };
+        let sheets = sheets(&f);
+        let left = (sheets.season().days - closed) as usize;
+        let area = block_area(g, &sheets, closed);
+        let mut block = banks::Block { sheet: sheets.block, area, room: left + g.pick(&[0, 0, 1, 5]) };
+        if g.one_in(15.max(2 * count)) {
+            spoil_block(g, &mut block, &f, days, closed);
+        }
+        blocks.push(block);
+    }
+    let limit = if g.one_in(6) { g.of(1, 40) } else { g.of(1, 3) };
+    let mut b = Bank::of(&sheets(&first).climate, limit, &blocks);
+    if g.one_in(12) {
+        b.climate = any_climate(g);
+    }
+    if g.one_in(3) {
+        b.lengths.extend([g.next() as u32, u32::MAX, 5, 0].into_iter().take(g.of(0, 4) as usize));
+        b.sheets.extend(vec![g.next() as u8; g.of(0, 30) as usize]);
+        b.areas.extend(vec![g.pick(&[0xff, 1, 0]); g.of(0, 30) as usize]);
+        b.depths += g.of(0, 30) as usize;
+    }
+    if g.one_in(5) {
+        spoil_lengths(g, &mut b);
+    }
+    b
 }

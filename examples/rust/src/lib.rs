@@ -1,4 +1,4 @@
-//! The ten calls of include/balladsky.h for Rust. The header says what each writes and what its names stand for; a
+//! The eleven calls of include/balladsky.h for Rust. The header says what each writes and what its names stand for; a
 //! reference here has what the header asks of a pointer.
 
 /// What a call writes: document 01's number, the number returned with it, then the answer.
@@ -7,6 +7,7 @@ pub type Out = [u32; OUT];
 pub const OUT: usize = 24;
 pub const AREA: usize = 8192;
 pub const DEPTHS: usize = 275;
+pub const ANSWERS: usize = 200;
 pub const ROWS: usize = 174;
 pub const CLIMATE: usize = 60;
 pub const BLOCK: usize = 27;
@@ -36,6 +37,8 @@ pub const CONTENT_OUT_OF_RANGE: u32 = 18;
 pub const NO_CONTENT: u32 = 19;
 pub const ROLE_OUT_OF_RANGE: u32 = 20;
 pub const ROLE_MAY_NOT_RECORD: u32 = 21;
+pub const BANK_OUT_OF_RANGE: u32 = 22;
+pub const BLOCKS_DIFFER: u32 = 23;
 
 /// Who calls. A role is a plain number, since the call itself refuses every other one.
 pub const LOOK: u32 = 1;
@@ -89,6 +92,11 @@ mod c {
         pub fn balladsky_plan(
             role: u32, climate: *const u8, climate_length: usize, block: *const u8, block_length: usize,
             area: *const u8, area_length: usize, depths: *mut u32, depths_length: usize, out: *mut u32,
+        );
+        pub fn balladsky_bank(
+            role: u32, climate: *const u8, climate_length: usize, blocks: u32, limit: u32, lengths: *const u32,
+            lengths_length: usize, sheets: *const u8, sheets_length: usize, areas: *const u8, areas_length: usize,
+            depths: *mut u32, depths_length: usize, answers: *mut u32, out: *mut u32,
         );
         pub fn balladsky_table(
             role: u32, climate: *const u8, climate_length: usize, block: *const u8, block_length: usize,
@@ -149,6 +157,21 @@ pub fn probe_of_any_kind(
 pub fn plan(role: u32, climate: &[u8], block: &[u8], area: &[u8], depths: &mut [u32], out: &mut Out) {
     let (c, b, a, d, out) = (climate.as_ptr(), block.as_ptr(), area.as_ptr(), depths.as_mut_ptr(), out.as_mut_ptr());
     unsafe { c::balladsky_plan(role, c, climate.len(), b, block.len(), a, area.len(), d, depths.len(), out) }
+}
+
+/// Three lengths a block: its sheet, its journal, its part of the depths. Five answers a block.
+pub fn bank(
+    role: u32, climate: &[u8], blocks: u32, limit: u32, lengths: &[u32], sheets: &[u8], areas: &[u8],
+    depths: &mut [u32], answers: &mut [u32; ANSWERS], out: &mut Out,
+) {
+    let (c, l, s, a) = (climate.as_ptr(), lengths.as_ptr(), sheets.as_ptr(), areas.as_ptr());
+    let (d, answers, out) = (depths.as_mut_ptr(), answers.as_mut_ptr(), out.as_mut_ptr());
+    unsafe {
+        c::balladsky_bank(
+            role, c, climate.len(), blocks, limit, l, lengths.len(), s, sheets.len(), a, areas.len(), d, depths.len(),
+            answers, out,
+        )
+    }
 }
 
 pub fn table(role: u32, climate: &[u8], block: &[u8], rows: &mut [u32], out: &mut Out) {

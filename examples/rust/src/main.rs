@@ -1,14 +1,25 @@
 //! A season of four days on the small pair of sheets, with two power cuts. Firmware opens as role 3, role 2 records,
-//! and role 1 looks at the panel and presses the wrong key. Prints the decade table, what the soil probes say on day 3,
-//! the ledger and the lost yield.
-use balladsky::{close, irrigation, loss, open, plan, probe, rain, table};
-use balladsky::{Out, Probe, ACCEPTED, DEPTHS, LOOK, MEND, OUT, RECORD, ROWS, TORN};
+//! and role 1 looks at the panel and presses the wrong key. Prints the decade table, the plans of four such blocks on
+//! one pump, what the soil probes say on day 3, the ledger and the lost yield.
+use balladsky::{bank, close, irrigation, loss, open, plan, probe, rain, table};
+use balladsky::{Out, Probe, ACCEPTED, ANSWERS, DEPTHS, LOOK, MEND, OUT, RECORD, ROWS, TORN};
 
 /// ETo 500 and eleven 0; rain twelve 0.
 const CLIMATE: [u8; 25] = [0xf4, 3, 0, 0, 0, 0, 0, 0, 0, 0, 0, 0, 0, 0, 0, 0, 0, 0, 0, 0, 0, 0, 0, 0, 0];
 
 /// 1 9; 1 1 1 1; 40 100 60; 100 20 20 50; 75; 0; turns 127.
 const BLOCK: [u8; 16] = [1, 9, 1, 1, 1, 1, 40, 100, 60, 100, 20, 20, 50, 75, 0, 127];
+
+/// Blocks on one pump, bytes of each one's journal, and numbers of its part of the depths, a day more than the season
+/// has.
+const BLOCKS: usize = 4;
+const JOURNAL: usize = 8;
+const PART: usize = 5;
+
+/// "1 watering", "2 waterings".
+fn counted(waterings: u32) -> String {
+    format!("{waterings} watering{}", if waterings == 1 { "" } else { "s" })
+}
 
 type EntryCall = fn(u32, &[u8], &[u8], &[u8], u32, &mut Out);
 
@@ -38,6 +49,29 @@ impl Firmware {
         println!("table: {count} row{}", if count == 1 { "" } else { "s" });
         for row in rows.chunks(6).take(count) {
             println!("{} {} {} {} {} {}", row[0], row[1], row[2], row[3], row[4], row[5]);
+        }
+    }
+
+    /// Four blocks with this sheet and blank journals, on a pump that feeds so many valves a day. What a part holds
+    /// beside its depths is 7.
+    fn print_bank(&mut self, limit: u32) {
+        let lengths = [BLOCK.len() as u32, JOURNAL as u32, PART as u32].repeat(BLOCKS);
+        let (sheets, areas) = (BLOCK.repeat(BLOCKS), [0xff; BLOCKS * JOURNAL]);
+        let (mut depths, mut answers) = ([7; BLOCKS * PART], [0; ANSWERS]);
+        bank(
+            LOOK, &CLIMATE, BLOCKS as u32, limit, &lengths, &sheets, &areas, &mut depths, &mut answers, &mut self.out,
+        );
+        self.accepted("bank");
+        println!("bank: {BLOCKS} blocks, {limit} valve{} a day", if limit == 1 { "" } else { "s" });
+        for (k, (answer, part)) in (1..).zip(answers.chunks(5).zip(depths.chunks(PART))) {
+            match *answer {
+                [ACCEPTED, _, waterings, net, gross] => {
+                    print!("block {k}: {}, net {net}, gross {gross}, depths", counted(waterings))
+                }
+                _ => print!("block {k}: refused {} {}, depths", answer[0], answer[1]),
+            }
+            part.iter().for_each(|depth| print!(" {depth}"));
+            println!();
         }
     }
 
@@ -127,6 +161,7 @@ fn main() {
     let mut depths = [0; DEPTHS];
     f.come_up();
     f.print_table();
+    f.print_bank(1);
     f.press_rain(LOOK, 300);
     f.enter_with_cut("rain", rain, 300, 2);
     f.close_day(1);
@@ -137,8 +172,7 @@ fn main() {
     f.print_probes("shallow NaN", Probe::Water(f32::from_bits(0x7fc0_0000)), Probe::Water(0.28125));
     plan(LOOK, &CLIMATE, &BLOCK, &f.area, &mut depths, &mut f.out);
     f.accepted("plan");
-    let (waterings, net, gross) = (f.out[2], f.out[3], f.out[4]);
-    println!("plan: {waterings} watering{}, net {net}, gross {gross}", if waterings == 1 { "" } else { "s" });
+    println!("plan: {}, net {}, gross {}", counted(f.out[2]), f.out[3], f.out[4]);
     f.enter_with_cut("irrigation", irrigation, depths[0], 1);
     f.close_day(3);
     f.close_day(4);

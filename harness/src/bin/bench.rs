@@ -1,12 +1,14 @@
 //! Measures the library and the plain implementation side by side in one run: medians of 401 rounds, each a batch of
 //! about 20 µs of the one, then of the other, and the ratio of the medians. Every number of every answer is compared
-//! first. Journals of mixed lengths, usual seasons, those torn and pairs to write are 32 each, taken in turn. Role 3
-//! opens, role 2 records and role 1 asks the rest, which neither implementation knows before the call.
+//! first. Journals of mixed lengths, usual seasons, those torn and pairs to write are 32 each, taken in turn; a bank
+//! has 40 blocks, no two alike. Role 3 opens, role 2 records and role 1 asks the rest, which neither implementation
+//! knows before the call.
 //!
 //!     cargo run --release --manifest-path harness/Cargo.toml --bin bench
 use balladsky::{self as library, Out, LOOK, MEND, OUT, RECORD};
+use harness::banks::{self, Bank, Block};
 use harness::plain::book::{bytes, Entry};
-use harness::random::{self, Dice, Sheets};
+use harness::random::{self, Dice, Fields, Sheets};
 use harness::{numbers, plain};
 use std::hint::black_box;
 use std::time::Instant;
@@ -30,7 +32,7 @@ fn timed(run: &mut Run, batch: u32) -> f64 {
 }
 
 /// A season of 275 days, the longest.
-fn season(eto: u32, rain: u32, available: u32, (sown, full): (u32, u32), fraction: u32) -> Sheets {
+fn season(eto: u32, rain: u32, available: u32, (sown, full): (u32, u32), fraction: u32) -> Fields {
     let mut f = [0; 41];
     f[..9].copy_from_slice(&[3, 21, 45, 70, 90, 70, 35, 115, 60]);
     for m in 0..12 {
@@ -38,7 +40,7 @@ fn season(eto: u32, rain: u32, available: u32, (sown, full): (u32, u32), fractio
         f[21 + m] = rain + 300 * m as u32;
     }
     f[33..].copy_from_slice(&[available, sown, full, fraction, 75, 0, 127, 28]);
-    random::sheets(&f)
+    f
 }
 
 /// An area of 8,192 bytes with these entries, as many as leave so many bytes.
@@ -74,18 +76,29 @@ fn closed_days(days: u32) -> Vec<u8> {
     area((1..=days).map(Entry::Close), 0)
 }
 
-/// Ten entries a day of two, three and four bytes, in no order.
-fn mixed(journal: u64, left: usize) -> Vec<u8> {
-    let mut g = Dice(journal);
+/// Ten entries a day of two, three and four bytes, in no order, to the close of a day.
+fn mixed_days(g: &mut Dice, days: u32) -> Vec<Entry> {
     let mut entries = Vec::new();
-    for day in 1..=275 {
+    for day in 1..=days {
         for _ in 0..10 {
             let (least, most) = g.pick(&[(1, 127), (128, 16_383), (16_384, 24_000)]);
             entries.push(water(g.of(0, 1), g.of(least, most)));
         }
         entries.push(Entry::Close(day));
     }
-    area(entries, left)
+    entries
+}
+
+fn mixed(journal: u64, left: usize) -> Vec<u8> {
+    area(mixed_days(&mut Dice(journal), 275), left)
+}
+
+/// As many entries as an area takes with 138 days left: those of 137 days, then small ones of the open day.
+fn half_way(journal: u64) -> Vec<u8> {
+    let mut g = Dice(journal);
+    let mut entries = mixed_days(&mut g, 137);
+    entries.extend((0..4_096).map(|_| water(g.of(0, 1), g.of(1, 90))));
+    area(entries, 0)
 }
 
 /// A usual season: one day in three has water, half a millimetre to sixty, and every day is closed.
@@ -217,6 +230,47 @@ fn plan_line<'a>(name: &str, s: &'a Sheets, area: &'a [u8]) -> Line<'a> {
     )
 }
 
+/// Forty blocks of 275 days with soils and turns of their own, on the climate of such a season, and journals.
+fn bank(season: &Fields, limit: u32, journal: impl Fn(u64) -> Vec<u8>) -> Bank {
+    let mut g = Dice(40);
+    let mut block = |k: u64| {
+        let soil = [(34, g.of(100, 180)), (35, g.of(30, 60)), (36, g.of(100, 200)), (37, g.of(40, 65))];
+        let f = random::with(random::with(*season, &soil), &[(38, g.of(60, 90)), (40, g.pick(&[127, 126, 95, 63]))]);
+        Block { sheet: random::sheets(&f).block, area: journal(k), room: 275 }
+    };
+    Bank::of(&random::sheets(season).climate, limit, &(1..=40).map(&mut block).collect::<Vec<_>>())
+}
+
+/// All of them are planned where the limit allows it.
+fn bank_line<'a>(name: &str, b: &'a Bank) -> Line<'a> {
+    let name = format!("bank: 40 blocks of 275 days, limit {}, {name}", b.limit);
+    let (before, mut ours) = (b.before(NOISE), b.before(NOISE));
+    let mut theirs = before.clone();
+    let lent: &mut [u32; plain::ANSWERS] = ours.1.1.as_mut_slice().try_into().unwrap();
+    let (blocks, limit) = (b.blocks, b.limit);
+    library::bank(LOOK, &b.climate, blocks, limit, &b.lengths, &b.sheets, &b.areas, &mut ours.1.0, lent, &mut ours.0);
+    banks::by_plain(b, LOOK, &mut theirs);
+    assert_eq!(ours, theirs, "{name}");
+    let planned = ours.1.1.chunks(5).filter(|five| five[0] == 0).count();
+    assert!(ours.0[0] == library::ACCEPTED && (planned == 40) == (limit == 40), "{name}: {planned} planned");
+    let given = move || black_box((&b.climate[..], blocks, limit, &b.lengths[..], &b.sheets[..], &b.areas[..]));
+    let (mut ours, mut out, mut answers) = (before.1.0.clone(), before.0, [0; plain::ANSWERS]);
+    let (mut theirs, mut numbers) = (before.1.0, [0; plain::ANSWERS]);
+    line(
+        name,
+        move || {
+            let (climate, blocks, limit, lengths, sheets, areas) = given();
+            let (depths, answers, out) = black_box((&mut ours[..], &mut answers, &mut out));
+            library::bank(black_box(LOOK), climate, blocks, limit, lengths, sheets, areas, depths, answers, out)
+        },
+        move || {
+            let (climate, blocks, limit, lengths, sheets, areas) = given();
+            let (depths, answers) = black_box((&mut theirs[..], &mut numbers));
+            black_box(plain::bank(black_box(LOOK), climate, blocks, limit, lengths, sheets, areas, depths, answers));
+        },
+    )
+}
+
 fn table_line(s: &Sheets) -> Line<'_> {
     let (mut out, mut ours, mut theirs) = ([NOISE; OUT], [0; 174], [0; 174]);
     library::table(LOOK, &s.climate, &s.block, &mut ours, &mut out);
@@ -262,9 +316,10 @@ fn write_line(pairs: &[(plain::Climate, plain::Block)]) -> Line<'_> {
 }
 
 fn main() {
-    let sheets = season(300, 2_000, 140, (30, 150), 50);
-    let few = season(300, 2_000, 140, (200, 300), 60);
-    let many = season(500, 100, 100, (15, 20), 60);
+    let usual_season = season(300, 2_000, 140, (30, 150), 50);
+    let sheets = random::sheets(&usual_season);
+    let few = random::sheets(&season(300, 2_000, 140, (200, 300), 60));
+    let many = random::sheets(&season(500, 100, 100, (15, 20), 60));
     let mut leap = sheets.clone();
     leap.block.push(29);
     let (two, four, closed, blank) = ([two_byte(0)], [four_byte(0)], [closed_days(275)], [vec![0xff; 8_192]]);
@@ -275,6 +330,8 @@ fn main() {
     let cut_season = journals(|j| torn(64 + j));
     let open_season = journals(|j| usual(96 + j, 274));
     let empty = [Vec::new()];
+    let on_blank = [1, 40].map(|limit| bank(&usual_season, limit, |_| vec![0xff; 8_192]));
+    let on_full = [1, 40].map(|limit| bank(&usual_season, limit, |k| half_way(128 + k)));
     let mut g = Dice(1);
     let fields = (0..32).map(|_| random::ordinary(&mut g, 275));
     let pairs: Vec<_> = fields.map(|f| (random::climate_of(&f), random::block_of(&f))).collect();
@@ -295,6 +352,10 @@ fn main() {
         probe_line("8,192 bytes, a usual season", &sheets, &open_season),
         plan_line("few", &few, &blank[0][..64]),
         plan_line("many", &many, &blank[0][..64]),
+        bank_line("blank", &on_blank[0]),
+        bank_line("blank", &on_blank[1]),
+        bank_line("full", &on_full[0]),
+        bank_line("full", &on_full[1]),
         table_line(&sheets),
         open_line("no area (reads the sheet)", library::ACCEPTED, &sheets, &empty),
         open_line("no area, forty-one numbers", library::ACCEPTED, &leap, &empty),

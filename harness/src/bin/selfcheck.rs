@@ -1,11 +1,13 @@
 //! Checks the plain implementation itself: against the documents' own numbers, a second reader and writer of sheets,
 //! also of the one sheet that a pair was, a list of the year's days, water contents by their decimals, slow rules,
-//! every choice of waterings in small seasons, the book, and a literal reading of what an opening finds; each role's
-//! answers against role 3's, which are the answers without roles. It takes some minutes; 10 percent of the rounds take
-//! seconds. Status 1 at a mismatch.
+//! every choice of waterings in small seasons, also on the turn days that a pump leaves, the book, and a literal
+//! reading of what an opening finds; banks against the plans of their blocks by the slow rules; each role's answers
+//! against role 3's, which are the answers without roles. It takes some minutes; 10 percent of the rounds take seconds.
+//! Status 1 at a mismatch.
 //!
 //!     cargo run --release --manifest-path harness/Cargo.toml --bin selfcheck [SEED [PERCENT OF THE ROUNDS]]
 use harness::asks::{by_plain, by_rule, noisy, written_by_plain, Answer, Ask, Made, Right};
+use harness::banks::{self, Bank, Banked};
 use harness::plain::book::{self, Book, Call};
 use harness::plain::{self, *};
 use harness::random::{self, sheets, small, with, Dice, Fields, Probes, Sheets, Writer};
@@ -754,7 +756,7 @@ fn long_seasons(g: &mut Dice, percent: u32) -> (u64, u64) {
             continue;
         }
         t.same(|| format!("short buffer {f:?}"), refusal(&area, (s.days - l.day) as usize), (15, 0, 0, true));
-        let (number, value, depths) = slow_plan(&s, &l);
+        let (number, value, depths) = slow_plan(&s, &l, |i| is_turn(&s, l.day + i as u32));
         refused += (number == 16) as u32;
         t.same(|| format!("plan {f:?}"), (p.number, p.value), (number, value));
         let mut want = [9; DAYS + 1];
@@ -790,12 +792,13 @@ fn is_turn(s: &Season, day: u32) -> bool {
     s.turns >> ((day - 1) % 7) & 1 == 1
 }
 
-fn slow_plan(s: &Season, l: &Ledger) -> (u32, usize, Vec<u32>) {
+/// On the turn days given, by their place from the open day.
+fn slow_plan(s: &Season, l: &Ledger, is_turn: impl Fn(usize) -> bool) -> (u32, usize, Vec<u32>) {
     let mut depths = vec![0; (s.days - l.day + 1) as usize];
     let (mut last, mut before) = (None, Vec::new());
     while let Some(failing) = walk_days(s, l, &depths, &mut before) {
         let first = last.map_or(0, |i: usize| i + 1);
-        let turn = (first..=failing).rev().find(|&i| is_turn(s, l.day + i as u32));
+        let turn = (first..=failing).rev().find(|&i| is_turn(i));
         match turn {
             Some(i) if before[i] > 0 => (depths[i], last) = (before[i], Some(i)),
             _ => return (16, l.day as usize + failing, Vec::new()),
@@ -812,29 +815,41 @@ fn slow_plan(s: &Season, l: &Ledger) -> (u32, usize, Vec<u32>) {
 /// rule max(0, D − w) + C rises with D, and both have the same w. So y holds wherever x does, and
 /// its irrigated days are among S (a fill may be 0), so up to each day they are no more than x's.
 /// Every least count and every first hopeless day is thus found among subsets of turn days, filled.
-/// Random depths are thrown in as well, to try the argument itself.
+/// Given each day's water, need and ready water and the turn days' places, answers the fewest irrigated days to each
+/// day among choices that hold to the end, and how many days a choice holds at most.
+fn all_choices(depletion: u32, numbers: &[(i64, i64, i64)], turns: &[usize]) -> (Vec<u32>, usize) {
+    let (mut least, mut reach) = (vec![u32::MAX; numbers.len()], 0);
+    for subset in 0u32..1 << turns.len() {
+        let (mut d, mut count, mut counts, mut ok) = (depletion as i64, 0, vec![0; numbers.len()], true);
+        for (i, &(w, c, r)) in numbers.iter().enumerate() {
+            d = (d - w).max(0);
+            if turns.iter().position(|&x| x == i).is_some_and(|b| subset >> b & 1 == 1) && d > 0 {
+                d = 0;
+                count += 1;
+            }
+            d += c;
+            counts[i] = count;
+            if d > r {
+                ok = false;
+                break;
+            }
+            reach = reach.max(i + 1);
+        }
+        if ok {
+            least.iter_mut().zip(&counts).for_each(|(a, b)| *a = (*a).min(*b));
+        }
+    }
+    (least, reach)
+}
+
+/// A plan, and three on one pump, against every choice. Random depths are thrown in as well, to try the argument
+/// itself.
 fn brute(g: &mut Dice, percent: u32) -> (u64, u64) {
     let mut t = tally();
     let (mut held, mut refused, mut tried, mut loose) = (0, 0, 0u64, 0u64);
-    let mut many = 0;
+    let (mut many, mut behind) = (0, [0; 2]);
     for _ in 0..250 * percent {
-        let mut f = random::fields(g, 13);
-        f[33] = g.pick(&[20, 60, 140]);
-        f[35] = g.of(10, 60);
-        f[34] = g.of(10, f[35]);
-        if g.one_in(2) {
-            f[36] = g.of(30, 80);
-        }
-        // Needs of a third of the ready water up to all of it, so that many waterings are wanted.
-        let day1 = f[33] * (f[34] + (f[35] - f[34]) / (f[2] + f[3]));
-        let cap = (day1 * f[36] / 100 / g.of(1, 3)).min(1_500);
-        let dry = g.one_in(2);
-        for i in 9..21 {
-            f[i] = g.of(cap / 3, cap);
-            f[12 + i] /= if dry { 20 } else { 1 };
-        }
-        f[38] = g.of(0, day1 * f[36] / 100);
-        f[39] = g.of(0, 127) | g.of(0, 127);
+        let f = random::thirsty(g, 13);
         let sheets = sheets(&f);
         let s = sheets.season();
         let (area, l) = random::journal(g, &sheets, 80);
@@ -848,27 +863,38 @@ fn brute(g: &mut Dice, percent: u32) -> (u64, u64) {
             (w as i64, book::need(&s, day) as i64, book::soil(&s, day).1 as i64)
         }).collect();
         let turns: Vec<usize> = (0..days).filter(|&i| is_turn(&s, l.day + i as u32)).collect();
-        // least[j]: fewest irrigated days to day j among choices that hold to the end; reach: days held at most.
-        let (mut least, mut reach) = (vec![u32::MAX; days], 0);
-        for subset in 0u32..1 << turns.len() {
-            let (mut d, mut count, mut counts, mut ok) = (l.depletion as i64, 0, vec![0; days], true);
-            for (i, &(w, c, r)) in numbers.iter().enumerate() {
-                d = (d - w).max(0);
-                if turns.iter().position(|&x| x == i).is_some_and(|b| subset >> b & 1 == 1) && d > 0 {
-                    d = 0;
-                    count += 1;
-                }
-                d += c;
-                counts[i] = count;
-                if d > r {
-                    ok = false;
-                    break;
-                }
-                reach = reach.max(i + 1);
+        let (least, reach) = all_choices(l.depletion, &numbers, &turns);
+        tried += 1 << turns.len();
+        // The block three times on one pump, the others with more turns, or fewer: each on the turn days left to it.
+        let blocks = [0, 1, 2].map(|k| {
+            let f = if k == 0 { f } else { with(f, &[(40, g.of(0, 127) | g.of(0, 127))]) };
+            banks::Block { sheet: random::sheets(&f).block, area: area.clone(), room: days }
+        });
+        let bank = Bank::of(&sheets.climate, g.of(1, 2), &blocks);
+        let mut got = bank.before(9);
+        let part_before = got.1.0.clone();
+        banks::by_plain(&bank, 3, &mut got);
+        t.same(|| format!("bank of {bank:02x?}"), got.0[0], 0);
+        let mut used = vec![0; days];
+        for (k, block) in blocks.iter().enumerate() {
+            let season = Sheets::new(&sheets.climate, &block.sheet).season();
+            let left: Vec<usize> =
+                (0..days).filter(|&i| is_turn(&season, l.day + i as u32) && used[i] < bank.limit).collect();
+            let (least, reach) = all_choices(l.depletion, &numbers, &left);
+            let (answer, part) = (&got.1.1[5 * k..][..5], &got.1.0[days * k..][..days]);
+            let what = || format!("block {k} of {bank:02x?}");
+            behind[(answer[0] == 0) as usize] += 1;
+            if reach < days {
+                let day = l.day + reach as u32;
+                t.same(what, (answer, part), (&[16, day, 0, 0, 0][..], &part_before[days * k..][..days]));
+                continue;
             }
-            tried += 1;
-            if ok {
-                least.iter_mut().zip(&counts).for_each(|(a, b)| *a = (*a).min(*b));
+            let counts: Vec<u32> = part.iter().scan(0, |n, &d| { *n += (d > 0) as u32; Some(*n) }).collect();
+            t.same(what, (&answer[..4], &counts), (&[0, 0, counts[days - 1], part.iter().sum()][..], &least));
+            t.same(what, walk_days(&season, &l, part, &mut Vec::new()), None);
+            for (i, &depth) in part.iter().enumerate() {
+                t.same(what, depth == 0 || left.contains(&i), true);
+                used[i] += (depth > 0) as u32;
             }
         }
         let mut depths = vec![9; days];
@@ -911,7 +937,128 @@ fn brute(g: &mut Dice, percent: u32) -> (u64, u64) {
         }
     }
     println!("small seasons: {held} held ({many} with two waterings or more), {refused} refused; {tried} fill choices, {loose} random choices");
+    println!("their blocks on one pump: {} held, {} refused", behind[1], behind[0]);
     t.report("planner by brute force")
+}
+
+// ------------------------------------------------------------------ banks
+
+/// A bank word for word: refusals in document 02's order, each block's by the calls on that block alone, then each
+/// block planned by the slow rules, where a day on which `limit` of the plans before it water is no turn day.
+fn slow_bank(b: &Bank, before: &Banked) -> Banked {
+    let mut answer = before.clone();
+    let refused = |number: u32, value: usize| {
+        let mut answer = before.clone();
+        answer.0[..2].copy_from_slice(&[number, value as u32]);
+        answer
+    };
+    let in_range = (1..=40).contains(&b.blocks) && (1..=40).contains(&b.limit);
+    let sum = |column: usize| b.lengths.chunks(3).take(b.blocks as usize).map(|l| l[column] as u128).sum::<u128>();
+    let buffers = [b.sheets.len(), b.areas.len(), b.depths];
+    if !in_range || (b.lengths.len() as u64) < 3 * b.blocks as u64 || (0..3).any(|i| sum(i) > buffers[i] as u128) {
+        return refused(22, 0);
+    }
+    if let Err((number, value)) = slow_sheets(&Sheets::new(&b.climate, &cases::BLOCK)) {
+        return refused(number, value);
+    }
+    let mut blocks = Vec::new();
+    for (block, at) in b.parts().unwrap() {
+        let pair = Sheets::new(&b.climate, &block.sheet);
+        let p = plan(&pair, &block.area, &mut vec![0; block.room]);
+        match open(&pair, &block.area).opening {
+            Opening::Clean(l) if [0, 16].contains(&p.number) => blocks.push((pair.season(), l, at)),
+            _ => return refused(p.number, p.value),
+        }
+    }
+    let common: Vec<[u32; 4]> = blocks.iter().map(|(s, l, _)| [s.month as u32, s.date, s.february, l.day]).collect();
+    if common.iter().any(|c| c != &common[0]) {
+        return refused(23, 0);
+    }
+    answer.0[..2].copy_from_slice(&[0, 0]);
+    let mut plans: Vec<Vec<u32>> = Vec::new();
+    for (k, (s, l, at)) in blocks.into_iter().enumerate() {
+        let watering = |i: usize| plans.iter().filter(|p| p.get(i).is_some_and(|&d| d > 0)).count();
+        let left = |i: usize| is_turn(&s, l.day + i as u32) && watering(i) < b.limit as usize;
+        let (number, value, depths) = slow_plan(&s, &l, left);
+        let net: u32 = depths.iter().sum();
+        let count = depths.iter().filter(|&&d| d > 0).count() as u32;
+        let five = [number, value as u32, count, net, (net * 100 + s.efficiency - 1) / s.efficiency];
+        answer.1.1[5 * k..][..5].copy_from_slice(&five);
+        answer.1.0[at..][..depths.len()].copy_from_slice(&depths);
+        plans.push(depths);
+    }
+    answer
+}
+
+/// Document 02's cases of T-10, then any banks against the slow one, by each role. No day has more waterings than the
+/// limit, and where that is no less than the blocks, each has the plan that it has alone.
+fn bank_calls(g: &mut Dice, percent: u32) -> (u64, u64) {
+    let mut t = tally();
+    let asked = |bank: &Bank, role: u32, before: &Banked| {
+        let mut answer = before.clone();
+        banks::by_plain(bank, role, &mut answer);
+        answer
+    };
+    for (bank, want) in cases::banks() {
+        let before = (noisy(7), (vec![7; bank.depths], vec![7; ANSWERS]));
+        let mut want = (before.0, want);
+        want.0[..2].copy_from_slice(&[0, 0]);
+        for role in 1..=3 {
+            t.same(|| format!("role {role}, {bank:02x?}"), &asked(&bank, role, &before), &want);
+        }
+        t.same(|| format!("slowly {bank:02x?}"), &slow_bank(&bank, &before), &want);
+    }
+    for (role, bank, want) in cases::refused_banks() {
+        let before = bank.before(7);
+        let mut all = before.clone();
+        all.0[..2].copy_from_slice(&want);
+        t.same(|| format!("role {role}, {bank:02x?}"), &asked(&bank, role, &before), &all);
+        if role <= 3 && role > 0 {
+            t.same(|| format!("slowly {bank:02x?}"), &slow_bank(&bank, &before), &all);
+        }
+    }
+    let (mut seen, mut made, mut refused, mut moved, mut most) = ([0u32; 24], 0, 0, 0, 0);
+    for _ in 0..800 * percent {
+        let bank = random::bank(g);
+        let before = bank.before(g.next() as u32);
+        let third = asked(&bank, 3, &before);
+        seen[third.0[0] as usize] += 1;
+        t.same(|| format!("{bank:02x?}"), &third, &slow_bank(&bank, &before));
+        for role in random::ROLES {
+            let want = by_rule(role, Right::Look, &third, &before);
+            t.same(|| format!("by role {role}: {bank:02x?}"), asked(&bank, role, &before), want);
+        }
+        if third.0[0] != 0 {
+            continue;
+        }
+        let mut used = [0; DAYS];
+        for (k, (block, at)) in bank.parts().unwrap().into_iter().enumerate() {
+            let mut depths = before.1.0[at..][..block.room].to_vec();
+            let p = plan(&Sheets::new(&bank.climate, &block.sheet), &block.area, &mut depths);
+            let alone = [p.number, p.value as u32, p.waterings, p.net, p.gross];
+            let (answer, part) = (&third.1.1[5 * k..][..5], &third.1.0[at..][..block.room]);
+            if bank.limit >= bank.blocks {
+                t.same(|| format!("block {k} alone: {bank:02x?}"), (answer, part), (&alone[..], &depths[..]));
+            }
+            moved += (answer != alone) as u32;
+            if answer[0] == 0 {
+                made += 1;
+                // What stands behind a plan's days is what stood there before.
+                for (i, _) in part.iter().zip(&before.1.0[at..]).enumerate().filter(|(_, (a, b))| a != b && **a > 0) {
+                    used[i] += 1;
+                }
+            } else {
+                refused += 1;
+            }
+        }
+        let busiest = used.into_iter().max().unwrap();
+        most = most.max(busiest);
+        t.same(|| format!("waterings on a day: {bank:02x?}"), busiest <= bank.limit, true);
+    }
+    println!("banks by answer, 0 accepted: {seen:?}");
+    println!("their blocks: {made} planned, {refused} refused 16, {moved} of both otherwise than alone");
+    println!("most waterings of a bank on one day: {most}");
+    t.report("banks, slow rules")
 }
 
 // ------------------------------------------------------------------ roles
@@ -1182,8 +1329,8 @@ fn main() {
     println!("seed {seed}, {percent} percent");
     let mut g = Dice(seed);
     let parts = [daggers(), losses(), februaries(), sheet_bytes(&mut g, percent), writers(&mut g, percent),
-        probes(&mut g, percent), long_seasons(&mut g, percent), brute(&mut g, percent), roles(&mut g, percent),
-        histories(&mut g, percent), any_bytes(&mut g, percent)];
+        probes(&mut g, percent), long_seasons(&mut g, percent), brute(&mut g, percent), bank_calls(&mut g, percent),
+        roles(&mut g, percent), histories(&mut g, percent), any_bytes(&mut g, percent)];
     let (compared, wrong) = parts.iter().fold((0, 0), |a, p| (a.0 + p.0, a.1 + p.1));
     println!("in all: {compared} compared, {wrong} mismatches");
     std::process::exit((wrong > 0) as i32);
