@@ -60,10 +60,11 @@ use Rattle.planner.proofs.Claims as plans
 use Rattle.probes.specs.Contents.{isContent, tenThousandths, contentOf, pairOf, readingOf}
 use Rattle.probes.specs.Depletion.{measured}
 use Rattle.probes.proofs.Claims as probings
-use Rattle.controller.specs.declared.Probed.{Probed}
-use Rattle.controller.specs.declared.Probed.the-variants.{Depletions}
-use Rattle.controller.specs.declared.Probed.the-variants as probed
-use Rattle.controller.specs.Calls.{plannedOn, probedOn, probedNumbers, sheetOpened, sheetRecorded, sheetPlanned, sheetTabled, onSheets}
+use Rattle.measuring.specs.declared.Probed.{Probed}
+use Rattle.measuring.specs.declared.Probed.the-variants.{Depletions}
+use Rattle.measuring.specs.declared.Probed.the-variants as probed
+use Rattle.measuring.specs.Probing.{probedOn, probedNumbers}
+use Rattle.controller.specs.Calls.{plannedOn, sheetOpened, sheetRecorded, sheetPlanned, sheetTabled, onSheets}
 use Rattle.controller.specs.Roles.{openedBy, recordedBy, plannedBy, tabledBy}
 use Rattle.controller.specs.Refusals.{onLines, openLines, lossLines, entryLines, planLines, probeLines, tableLines}
 use Rattle.controller.specs.OneSheet.{SameAsOneSheet}

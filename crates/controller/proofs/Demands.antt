@@ -40,9 +40,10 @@ use Rattle.probes.specs.declared.Probe.{Probe}
 use Rattle.probes.specs.declared.Reading.the-variants.{Content}
 use Rattle.probes.specs.Contents.{readingOf}
 use Rattle.probes.specs.Depletion.{measured}
-use Rattle.controller.specs.declared.Probed.the-variants.{Depletions}
-use Rattle.controller.specs.declared.Probed.the-variants as probed
-use Rattle.controller.specs.Calls.{plannedOn, probedOn, sheetOpened, sheetRecorded, sheetLost, sheetPlanned, sheetProbed}
+use Rattle.measuring.specs.declared.Probed.the-variants.{Depletions}
+use Rattle.measuring.specs.declared.Probed.the-variants as probed
+use Rattle.measuring.specs.Probing.{probedOn}
+use Rattle.controller.specs.Calls.{plannedOn, sheetOpened, sheetRecorded, sheetLost, sheetPlanned, sheetProbed}
 use Rattle.controller.specs.Refusals.{planOf}
 use Rattle.controller.specs.Demands.{calls, numbered, PlanKept, Demand3}
 use Rattle.controller.proofs.Sheets.{sheets-accepted}

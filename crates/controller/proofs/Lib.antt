@@ -1,7 +1,6 @@
 pub mod Sheets
 pub mod Roles
 pub mod Plans
-pub mod Probing
 pub mod Demands
 pub mod Refusing
 pub mod Banks

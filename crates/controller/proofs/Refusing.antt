@@ -53,8 +53,9 @@ use Rattle.probes.specs.declared.Reading.{Reading}
 use Rattle.probes.specs.Contents.{readingOf, contentIn}
 use Rattle.probes.specs.Depletion.{measured}
 use Rattle.probes.proofs.Claims as probings
-use Rattle.controller.specs.Calls.{onSheets, plannedOn, capacityOutside, probeRefusals, probedUnless, probedOn, probedNumbers}
-use Rattle.controller.specs.declared.Probed.the-variants.{Depletions}
+use Rattle.measuring.specs.declared.Probed.the-variants.{Depletions}
+use Rattle.measuring.specs.Probing.{capacityOutside, probeRefusals, probedUnless, probedOn, probedNumbers}
+use Rattle.controller.specs.Calls.{onSheets, plannedOn}
 use Rattle.controller.specs.Refusals.{onLines, damaged, tornLine, ledgerIn, openLines, lossLines, entryLines, lost, planOf, roomLines, planLines, probeLines, tableLines}
 use Rattle.controller.proofs.Sheets.{on-sheets}
 use Rattle.controller.proofs.Roles.{look-verdict}

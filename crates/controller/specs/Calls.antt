@@ -2,15 +2,13 @@
 -- and a block sheet: it gives the first of them that applies, and else what it answers of their season. The two writers are given numbers:
 -- `climateWritten` and `blockWritten` of sheet's specs/Writing.antt.
 use Prim.Native.Nat.{ℕ}
-use mathlib.Core.Bool.{Bool, cond, _||_}
-use mathlib.Core.List.{List, [], _∷_}
+use mathlib.Core.Bool.{cond}
+use mathlib.Core.List.{List, []}
 use lib.Dec.{ltb}
 use Rattle.season.specs.declared.Season.{Season}
 use Rattle.season.specs.Sheet.{seasonDays}
-use Rattle.season.specs.Day.{rootOn, totalOn}
 use Rattle.verdict.specs.declared.Verdict.{Verdict}
 use Rattle.verdict.specs.declared.Verdict.the-variants.{Accepted, Refused}
-use Rattle.verdict.specs.Refusals.{firstOf}
 use Rattle.sheet.specs.Sheets.{sheetsOf}
 use Rattle.journal.specs.declared.Entry.{Entry}
 use Rattle.journal.specs.declared.Opening.{Opening}
@@ -30,12 +28,10 @@ use Rattle.decades.specs.declared.Tabled.{Tabled}
 use Rattle.decades.specs.declared.Tabled.the-variants as table
 use Rattle.decades.specs.Table.{tabled}
 use Rattle.probes.specs.declared.Probe.{Probe}
-use Rattle.probes.specs.declared.Reading.{Reading}
-use Rattle.probes.specs.Contents.{readingOf, isWrong, isNothing, contentIn}
-use Rattle.probes.specs.Depletion.{measured}
-use Rattle.controller.specs.declared.Probed.{Probed}
-use Rattle.controller.specs.declared.Probed.the-variants.{Depletions}
-use Rattle.controller.specs.declared.Probed.the-variants as probed
+use Rattle.probes.specs.Contents.{readingOf}
+use Rattle.measuring.specs.declared.Probed.{Probed}
+use Rattle.measuring.specs.declared.Probed.the-variants as probed
+use Rattle.measuring.specs.Probing.{probedOn}
 
 abbrev pub byVerdict : {A : Type 0} → (ℕ → ℕ → A) → (Season → A) → Season → Verdict → A
 byVerdict refuse reply s Accepted = reply s
@@ -66,38 +62,9 @@ plannedOn s out (found.Refused number place) = (planned.Refused number place, ou
 abbrev pub sheetPlanned : List ℕ → List ℕ → List ℕ → List ℕ → Planned × List ℕ
 sheetPlanned climate block area out = onSheets (λ number value. (planned.Refused number value, out)) (λ s. plannedOn s out (opening s area)) climate block
 
--- Probe (document 02, T-07), by the field capacity f, 1 to 6,000 ten-thousandths.
-abbrev pub capacityOutside : ℕ → Bool
-capacityOutside f = ltb f 1 || ltb 6000 f
-
--- Refusals 11, 18 and 19, where all days are closed, or are not. Each line: a test, the number, the number returned with it.
-abbrev pub probeRefusals : Bool → Reading → ℕ → List (Bool × ℕ × ℕ)
-probeRefusals closed r f = (closed, 11, 0) ∷ (isWrong r || capacityOutside f, 18, 0) ∷ (isNothing r, 19, 0) ∷ []
-
--- The depletions, or the refusal.
-abbrev pub probedUnless : Verdict → Probed → Probed
-probedUnless Accepted p = p
-probedUnless (Refused number value) p = probed.Refused number value
-
--- By an open day and its depletion: the ledger's, then the measured one with that day's Z and T.
-abbrev pub probedFrom : Season → Reading → ℕ → ℕ → ℕ → Probed
-probedFrom s r f day depletion =
-    probedUnless (firstOf Accepted (probeRefusals (ltb (seasonDays s) day) r f))
-    (Depletions depletion (measured f (contentIn r) (rootOn s day) (totalOn s day)))
-
--- On a journal that opens so: 8 to 10, then 11, 18 and 19. Waiting water plays no part.
-unfoldable pub probedOn : Season → Reading → ℕ → Opening → Probed
-probedOn s r f (found.Clean l) = probedFrom s r f (l .day) (l .depletion)
-probedOn s r f (found.Torn l place) = probed.Refused 10 place
-probedOn s r f (found.Refused number place) = probed.Refused number place
-
+-- Probe, by the field capacity in ten-thousandths.
 abbrev pub sheetProbed : List ℕ → List ℕ → List ℕ → Probe → Probe → ℕ → Probed
 sheetProbed climate block area shallow deep f = onSheets probed.Refused (λ s. probedOn s (readingOf shallow deep) f (opening s area)) climate block
-
--- The numbers of its answer: 0 and 0, the ledger's depletion, the measured one; or the refusal's.
-abbrev pub probedNumbers : Probed → List ℕ
-probedNumbers (Depletions ledger probes) = 0 ∷ 0 ∷ ledger ∷ probes ∷ []
-probedNumbers (probed.Refused number value) = number ∷ value ∷ []
 
 -- Table, with the lent buffer.
 abbrev pub sheetTabled : List ℕ → List ℕ → List ℕ → Tabled × List ℕ

@@ -24,7 +24,8 @@ use Rattle.decades.specs.declared.Tabled.{Tabled}
 use Rattle.decades.specs.Table as decades
 use Rattle.probes.specs.declared.Probe.{Probe}
 use Rattle.probes.specs.declared.Probe.the-variants.{Water, Low, Silent}
-use Rattle.controller.specs.Calls.{sheetOpened, sheetPlanned, sheetProbed, probedNumbers, sheetTabled}
+use Rattle.measuring.specs.Probing.{probedNumbers}
+use Rattle.controller.specs.Calls.{sheetOpened, sheetPlanned, sheetProbed, sheetTabled}
 use Rattle.controller.specs.Roles.{openedBy, recordedBy}
 
 -- The small pair's bytes; its block with these turns, which are the block's last number.

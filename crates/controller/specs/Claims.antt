@@ -37,8 +37,9 @@ use Rattle.bank.specs.Claims.{numbersAt, BankRight}
 use Rattle.decades.specs.Table as tabled
 use Rattle.probes.specs.declared.Probe.{Probe}
 use Rattle.probes.specs.Claims as probes
-use Rattle.controller.specs.declared.Probed.{Probed}
-use Rattle.controller.specs.Calls.{sheetOpened, sheetPlanned, probedNumbers}
+use Rattle.measuring.specs.declared.Probed.{Probed}
+use Rattle.measuring.specs.Probing.{probedNumbers}
+use Rattle.controller.specs.Calls.{sheetOpened, sheetPlanned}
 use Rattle.controller.specs.Roles.{openedBy, recordedBy, lossBy, plannedBy, probedBy, bankedBy, tabledBy, climateWrittenBy, blockWrittenBy, SameForRoles}
 use Rattle.controller.specs.Refusals.{onLines, openLines, lossLines, entryLines, planLines, probeLines, tableLines, bankLines}
 use Rattle.controller.specs.Demands.{PlanKept, Demand3, Press, areaPressed, OnlyLook}

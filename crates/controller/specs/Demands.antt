@@ -25,7 +25,7 @@ use Rattle.probes.specs.declared.Probe.{Probe}
 use Rattle.probes.specs.declared.Reading.the-variants.{Content}
 use Rattle.probes.specs.Contents.{readingOf}
 use Rattle.probes.specs.Depletion.{measured}
-use Rattle.controller.specs.declared.Probed.the-variants.{Depletions}
+use Rattle.measuring.specs.declared.Probed.the-variants.{Depletions}
 use Rattle.controller.specs.Roles.{openedBy, recordedBy, lossBy, plannedBy, probedBy}
 use Rattle.controller.specs.Refusals.{planOf}
 

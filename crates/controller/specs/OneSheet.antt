@@ -16,8 +16,9 @@ use Rattle.decades.specs.declared.Tabled.the-variants as table
 use Rattle.decades.specs.Table.{tabled}
 use Rattle.probes.specs.declared.Probe.{Probe}
 use Rattle.probes.specs.Contents.{readingOf}
-use Rattle.controller.specs.declared.Probed.the-variants as probed
-use Rattle.controller.specs.Calls.{byVerdict, plannedOn, probedOn, sheetOpened, sheetRecorded, sheetLost, sheetPlanned, sheetProbed, sheetTabled}
+use Rattle.measuring.specs.declared.Probed.the-variants as probed
+use Rattle.measuring.specs.Probing.{probedOn}
+use Rattle.controller.specs.Calls.{byVerdict, plannedOn, sheetOpened, sheetRecorded, sheetLost, sheetPlanned, sheetProbed, sheetTabled}
 
 -- A call on one sheet, its text as it was.
 abbrev pub onSheet : {A : Type 0} → (ℕ → ℕ → A) → (Season → A) → List ℕ → A

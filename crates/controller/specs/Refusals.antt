@@ -25,7 +25,7 @@ use Rattle.bank.specs.Judging.{blocksOf, judgedAt, startsDiffer}
 use Rattle.decades.specs.Table.{rowCount}
 use Rattle.probes.specs.declared.Probe.{Probe}
 use Rattle.probes.specs.Contents.{wrongContent, noContent}
-use Rattle.controller.specs.Calls.{capacityOutside}
+use Rattle.measuring.specs.Probing.{capacityOutside}
 
 -- ---- 20 and 21, for every call; then 1 to 7, for every call that is given two sheets
 

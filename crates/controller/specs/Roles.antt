@@ -21,8 +21,8 @@ use Rattle.bank.specs.Banks.{banked}
 use Rattle.decades.specs.declared.Tabled.{Tabled}
 use Rattle.decades.specs.declared.Tabled.the-variants as table
 use Rattle.probes.specs.declared.Probe.{Probe}
-use Rattle.controller.specs.declared.Probed.{Probed}
-use Rattle.controller.specs.declared.Probed.the-variants as probed
+use Rattle.measuring.specs.declared.Probed.{Probed}
+use Rattle.measuring.specs.declared.Probed.the-variants as probed
 use Rattle.controller.specs.Calls.{sheetOpened, sheetRecorded, sheetLost, sheetPlanned, sheetProbed, sheetTabled}
 
 -- Open: roles 1 and 2 get no stores.

@@ -53,8 +53,9 @@ use Rattle.decades.proofs.Count.{rows-at-most}
 use Rattle.probes.specs.declared.Probe.{Probe}
 use Rattle.probes.specs.declared.Reading.{Reading}
 use Rattle.probes.specs.Contents.{readingOf}
-use Rattle.controller.specs.declared.Probed.the-variants as probed
-use Rattle.controller.specs.Calls.{plannedOn, probeRefusals, probedUnless, probedFrom, probedOn, sheetOpened, sheetRecorded, sheetLost, sheetPlanned, sheetProbed, sheetTabled}
+use Rattle.measuring.specs.declared.Probed.the-variants as probed
+use Rattle.measuring.specs.Probing.{probeRefusals, probedUnless, probedFrom, probedOn}
+use Rattle.controller.specs.Calls.{plannedOn, sheetOpened, sheetRecorded, sheetLost, sheetPlanned, sheetProbed, sheetTabled}
 use Rattle.controller.specs.Roles.{openedBy, recordedBy, lossBy, plannedBy, probedBy, bankedBy, tabledBy, climateWrittenBy, blockWrittenBy}
 use Rattle.controller.proofs.Sheets.{on-sheets}
 use Rattle.controller.proofs.Roles.{look-by, enter-by, either-way}

@@ -22,8 +22,8 @@ use Rattle.journal.specs.Claims.{StoresOccur, CountOccurs, OpenedOccurs, Placed
 use Rattle.planner.specs.declared.Planned.{Planned}
 use Rattle.planner.specs.declared.Planned.the-variants as planned
 use Rattle.planner.specs.Answer as planner
-use Rattle.controller.specs.declared.Probed.{Probed}
-use Rattle.controller.specs.declared.Probed.the-variants as probed
+use Rattle.measuring.specs.declared.Probed.{Probed}
+use Rattle.measuring.specs.declared.Probed.the-variants as probed
 use Rattle.probes.specs.declared.Probe.the-variants.{Silent}
 use Rattle.decades.specs.declared.Tabled.{Tabled}
 use Rattle.decades.specs.declared.Tabled.the-variants as table
@@ -32,7 +32,7 @@ use Rattle.sheet.specs.declared.Written.{Written}
 use Rattle.sheet.specs.declared.Written.the-variants as made
 use Rattle.sheet.specs.Writing as writer
 use Rattle.season.proofs.Stores.{at-start}
-use Rattle.controller.specs.Calls.{probedNumbers}
+use Rattle.measuring.specs.Probing.{probedNumbers}
 use Rattle.controller.specs.Roles.{openedBy, recordedBy, lossBy, plannedBy, probedBy, bankedBy, tabledBy, climateWrittenBy, blockWrittenBy}
 use Rattle.controller.proofs.Claims as controller
 use Rattle.verdict.specs.Refusals.{numbersThen, numbersOf}

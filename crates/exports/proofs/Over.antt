@@ -9,7 +9,7 @@ use Rattle.journal.specs.declared.Recorded.{Recorded}
 use Rattle.journal.specs.declared.Opening.{Opening}
 use Rattle.journal.specs.declared.Opened.{Opened}
 use Rattle.probes.specs.declared.Probe.{Probe}
-use Rattle.controller.specs.declared.Probed.{Probed}
+use Rattle.measuring.specs.declared.Probed.{Probed}
 use Rattle.controller.specs.Roles.{openedBy, probedBy}
 use Rattle.controller.proofs.Claims.{claims}
 use Rattle.answers.specs.Over.{writtenOver}

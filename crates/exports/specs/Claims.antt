@@ -15,7 +15,7 @@ use Rattle.decades.specs.Table as decades
 use Rattle.sheet.specs.Writing as writer
 use Rattle.probes.specs.declared.Probe.{Probe}
 use Rattle.probes.specs.declared.Probe.the-variants.{Water, Low, Silent}
-use Rattle.controller.specs.Calls.{probedNumbers}
+use Rattle.measuring.specs.Probing.{probedNumbers}
 use Rattle.controller.specs.Roles.{openedBy, recordedBy, lossBy, plannedBy, probedBy, bankedBy, tabledBy, climateWrittenBy, blockWrittenBy}
 use Rattle.answers.specs.Over.{outLength, writtenOver}
 use Rattle.exports.specs.Written.{openedOut, recordedOut}

@@ -11,8 +11,8 @@ use Rattle.journal.specs.declared.Lost.{Lost}
 use Rattle.journal.specs.declared.Lost.the-variants as losing
 use Rattle.planner.specs.declared.Planned.{Planned}
 use Rattle.planner.specs.declared.Planned.the-variants as planned
-use Rattle.controller.specs.declared.Probed.{Probed}
-use Rattle.controller.specs.declared.Probed.the-variants as probed
+use Rattle.measuring.specs.declared.Probed.{Probed}
+use Rattle.measuring.specs.declared.Probed.the-variants as probed
 use Rattle.decades.specs.declared.Tabled.{Tabled}
 use Rattle.decades.specs.declared.Tabled.the-variants as table
 use Rattle.sheet.specs.declared.Written.{Written}

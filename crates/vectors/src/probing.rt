@@ -1,7 +1,7 @@
 // What the product answers of soil probes, by the bits of their values.
 use crate::roles;
 use crate::sheets;
-use controller::Probed;
+use measuring::Probed;
 use probes::Probe;
 use probes::Reading;
 use trial::get;

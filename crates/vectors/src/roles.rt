@@ -2,10 +2,10 @@
 use crate::ledger;
 use crate::sheets;
 use crate::writing;
-use controller::Probed;
 use decades::Tabled;
 use journal::Opening;
 use journal::Recorded;
+use measuring::Probed;
 use planner::Planned;
 use probes::Probe;
 use trial::get;

@@ -4,8 +4,8 @@ use denote.Ref.{now}
 use Rattle.journal.specs.Opening.{opening}
 use Rattle.probes.specs.declared.Reading.{Reading}
 use Rattle.probes.specs.Contents.{readingOf}
-use Rattle.controller.specs.declared.Probed.the-variants.{Refused}
-use Rattle.controller.specs.Calls.{probedOn}
+use Rattle.measuring.specs.declared.Probed.the-variants.{Refused}
+use Rattle.measuring.specs.Probing.{probedOn}
 use Rattle.controller.proofs.Sheets.{sheets-refused, sheets-accepted, read-accepted-season}
 use borrow.Author.Needs.{needs}
 use Rattle.controller.proofs.sheet_probed.Statement.{statement}

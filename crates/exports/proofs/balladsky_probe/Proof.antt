@@ -1,6 +1,6 @@
 -- By the answer's case: two depletions, or the refusal; each probe is that of its kind.
 use denote.Ref.{now}
-use Rattle.controller.specs.Calls.{probedNumbers}
+use Rattle.measuring.specs.Probing.{probedNumbers}
 use Rattle.exports.specs.Small.{SmallProbed}
 use Rattle.exports.proofs.Over.{holds-by, written-by, probes-are}
 use Rattle.exports.proofs.Bounds.{probed-small}

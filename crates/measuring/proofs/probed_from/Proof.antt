@@ -10,12 +10,12 @@ use Rattle.season.specs.Sheet.{seasonDays}
 use Rattle.season.specs.Day.{rootOn, totalOn}
 use Rattle.probes.specs.Contents.{contentIn}
 use Rattle.probes.specs.Depletion.{measured}
-use Rattle.controller.specs.declared.Probed.the-variants.{Depletions}
-use Rattle.controller.specs.Calls.{probeRefusals, probedUnless, probedFrom}
-use Rattle.controller.proofs.Probing.{probe-passes}
+use Rattle.measuring.specs.declared.Probed.the-variants.{Depletions}
+use Rattle.measuring.specs.Probing.{probeRefusals, probedUnless, probedFrom}
+use Rattle.measuring.proofs.Probing.{probe-passes}
 use borrow.Author.Needs.{needs}
-use Rattle.controller.proofs.probed_from.Statement.{statement}
-use Rattle.controller.proofs.probed_from.Tie as tie
+use Rattle.measuring.proofs.probed_from.Statement.{statement}
+use Rattle.measuring.proofs.probed_from.Tie as tie
 
 abbrev start-of : tie.After-or-refused3 → tie.Start
 start-of c = c .before .before .before .before .before .before

@@ -2,10 +2,10 @@
 use mathlib.Core.Path.{sym, ap, _∙_}
 use denote.Ref.{now}
 use Rattle.journal.proofs.Answers.{clean-within}
-use Rattle.controller.specs.Calls.{probedOn}
+use Rattle.measuring.specs.Probing.{probedOn}
 use borrow.Author.Needs.{needs}
-use Rattle.controller.proofs.probe_season.Statement.{statement}
-use Rattle.controller.proofs.probe_season.Tie as tie
+use Rattle.measuring.proofs.probe_season.Statement.{statement}
+use Rattle.measuring.proofs.probe_season.Tie as tie
 
 find-requires : tie.Need-find-requires
 find-requires c κs = search needs

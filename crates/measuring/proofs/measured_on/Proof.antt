@@ -7,8 +7,8 @@ use Rattle.season.proofs.Days.{number-is, on-day}
 use Rattle.season.proofs.Bounds.{root-le}
 use Rattle.probes.specs.Depletion.{measured}
 use borrow.Author.Needs.{needs}
-use Rattle.controller.proofs.measured_on.Statement.{statement}
-use Rattle.controller.proofs.measured_on.Tie as tie
+use Rattle.measuring.proofs.measured_on.Statement.{statement}
+use Rattle.measuring.proofs.measured_on.Tie as tie
 
 -- the season day
 today : (c : tie.After-day-of) → OnDay (c .before .args .s) (c .day-of .result)

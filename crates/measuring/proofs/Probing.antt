@@ -12,7 +12,7 @@ use Rattle.season.specs.declared.Season.{Season}
 use Rattle.season.specs.Sheet.{DayOf, seasonDays}
 use Rattle.probes.specs.declared.Reading.{Reading}
 use Rattle.probes.specs.Contents.{isWrong, isNothing}
-use Rattle.controller.specs.Calls.{capacityOutside, probeRefusals}
+use Rattle.measuring.specs.Probing.{capacityOutside, probeRefusals}
 
 or-false : (t u : Bool) → t || u ≡ false → u ≡ false
 or-false true u h = absurd (true≢false h)

@@ -1,7 +1,7 @@
 -- The two ends of the range.
 use borrow.Author.Tests.{le-ltb, lt-ltb}
-use Rattle.controller.proofs.is_outside.Statement.{statement}
-use Rattle.controller.proofs.is_outside.Tie as tie
+use Rattle.measuring.proofs.is_outside.Statement.{statement}
+use Rattle.measuring.proofs.is_outside.Tie as tie
 
 returns : tie.Need-returns
 returns c = rw (lt-ltb (c .before .args .capacity) 1 (c .if1 .taken))

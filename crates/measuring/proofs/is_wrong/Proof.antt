@@ -3,10 +3,10 @@ use mathlib.Core.Path.{sym, ap, _∙_}
 use mathlib.Core.Bool.{_||_}
 use Rattle.probes.specs.declared.Reading.{Reading}
 use Rattle.probes.specs.Contents.{isWrong}
-use Rattle.controller.specs.Calls.{capacityOutside}
+use Rattle.measuring.specs.Probing.{capacityOutside}
 use borrow.Author.Needs.{needs}
-use Rattle.controller.proofs.is_wrong.Statement.{statement}
-use Rattle.controller.proofs.is_wrong.Tie as tie
+use Rattle.measuring.proofs.is_wrong.Statement.{statement}
+use Rattle.measuring.proofs.is_wrong.Tie as tie
 
 enum-told : tie.Need-enum-told
 enum-told c = search needs
