@@ -76,8 +76,8 @@
  * every entry, the plan, the loss, the probe and a bank with that journal in it are refused 10.
  *
  * STACK, THREADS AND SIGNALS
- *   Stack on x86-64, beside what memcpy and memset take: balladsky_bank less than 6,000 bytes, the plan less than
- *   2,800, the probe less than 1,500, every other call less than 1,300.
+ *   Stack on x86-64, beside what memcpy and memset take: balladsky_bank less than 4,500 bytes, the plan less than
+ *   2,800, every other call less than 1,500.
  *   Where memcpy and memset are bound lazily, the first call that uses one takes some 3 KB more, once: link with
  *   -z now, or statically, and it does not.
  *   No heap, no globals, no locks, no recursion, no system call: calls on different buffers may run at once in any
