@@ -1,6 +1,7 @@
 // Up to forty blocks on one pump (document 02, T-10), planned one after another in the order given: a day on which `limit` of the earlier blocks water is
 // no turn day for those behind them. All blocks are judged before anything is written. What a block's own refusal is to the bank, and where its parts
 // lie, is in specs/.
+#![tactic(auto)]
 mod judging;
 mod lengths;
 mod planning;
@@ -23,7 +24,7 @@ pub const ANSWERS: usize = 200;
 
 // What a block's journal says: the first of refusals 8 to 11 and 15 that applies; and its ledger's open day, depletion and waiting water, 0 where the
 // journal is no clean one.
-#[derive(Drop)]
+#[derive(Clone, Copy)]
 pub struct Stand {
     pub verdict: Verdict,
     pub day: u32,
@@ -32,7 +33,7 @@ pub struct Stand {
 }
 
 // What all blocks of a bank have in common: fields 1 and 2, February's days, and the open day.
-#[derive(Drop)]
+#[derive(Clone, Copy)]
 pub struct Start {
     pub month: u32,
     pub first: u32,
@@ -41,7 +42,7 @@ pub struct Start {
 }
 
 // A block that is judged.
-#[derive(Drop)]
+#[derive(Clone, Copy)]
 pub struct Judged {
     pub verdict: Verdict,
     pub start: Start,
@@ -50,14 +51,14 @@ pub struct Judged {
 }
 
 // The first block's start, and whether another one's differs from it.
-#[derive(Drop)]
+#[derive(Clone, Copy)]
 struct Common {
     start: Start,
     differ: bool,
 }
 
 // All blocks, judged: the verdict, and the open day.
-#[derive(Drop)]
+#[derive(Clone, Copy)]
 struct Agreed {
     verdict: Verdict,
     day: u32,

@@ -1,4 +1,6 @@
 // The decade table of a season (document 01, 'Decade table').
+#![tactic(auto)]
+
 ghost use Rattle.std.specs.Prelude.{◌≡◌, cond, ◌++◌, ◌+◌, ◌-◌, ◌*◌, ◌≤◌, leb, length, drop};
 ghost use Rattle.std.proofs.lemmas.List.Edits.{sets};
 ghost use Rattle.season.specs.Sheet.{Valid};
@@ -16,14 +18,14 @@ pub const MOST_ROWS: u32 = 29;
 pub const MOST_NUMBERS: usize = 6 * MOST_ROWS as usize;
 
 // How many rows the table has, or a refusal: its number, and the number returned with it.
-#[derive(Drop)]
+#[derive(Clone, Copy)]
 pub enum Tabled {
     Rows(usize),
     Refused(u32, usize),
 }
 
 // A row, but for net and gross, which follow from it.
-#[derive(Drop)]
+#[derive(Clone, Copy)]
 struct Row {
     month: u32,
     decade: u32,

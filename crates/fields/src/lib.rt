@@ -1,5 +1,7 @@
 // The numbers of a season (document 01): their ranges, their names, and refusals 4 to 7. Fields 10 to 33 are a climate's; the others are a block's,
 // sixteen numbers, or seventeen with the days of February (document 02, T-06, T-08).
+#![tactic(auto)]
+
 ghost use Rattle.std.specs.Prelude.{◌≤◌, ◌≡◌, ◌++◌, length, take, drop};
 ghost use Rattle.fields.specs.Fields.{february_of, limits, outside, season_of, merged, block_field, block_fields};
 ghost use Rattle.fields.specs.Refusals.{climate_at_fault, block_at_fault, climate_verdict, block_verdict};
@@ -9,7 +11,7 @@ use season::Season;
 use verdict::Verdict;
 
 // The lowest and the highest number of a field.
-#[derive(Drop)]
+#[derive(Clone, Copy)]
 pub struct Limit(u32, u32);
 
 // Of fields 10 to 33.

@@ -1,12 +1,14 @@
 // Numbers in groups of seven bits (document 01, 'The season sheet'): lowest group first, with 0x80 added to each byte but the last.
 // A number is read only if it takes as few groups as it can, and three bytes at most.
+#![tactic(auto)]
+
 ghost use Rattle.std.specs.Prelude.{◌≡◌, [], ◌∷◌, drop};
 ghost use Rattle.leb128.specs.Groups.{group_count};
 ghost use Rattle.leb128.specs.Forms.{groups_of, joined_of, decode};
 
 // What stands at the start of a slice: a number and how many bytes it takes; the slice ends inside
 // the number; or the place of the first byte that no number has there.
-#[derive(Drop)]
+#[derive(Clone, Copy)]
 pub enum Number {
     Whole(u32, usize),
     Short,
@@ -14,7 +16,7 @@ pub enum Number {
 }
 
 // The bytes of a number, of which there are `count`, with zeros behind them.
-#[derive(Drop)]
+#[derive(Clone, Copy)]
 pub struct Groups {
     pub bytes: [u8; 5],
     pub count: u32,

@@ -1,4 +1,6 @@
 // The plan of a season's remaining waterings: document 01, 'The plan'. Depths are points.
+#![tactic(auto)]
+
 ghost use Rattle.std.specs.Prelude.{◌≡◌, cond, ◌&&◌, ◌++◌, ◌+◌, ◌-◌, ◌%◌, ◌≤◌, ◌<◌, length, drop, get_or, replicate, eqb, ltb};
 ghost use Rattle.season.specs.Sheet.{Valid, DayOf, longest_season};
 ghost use Rattle.season.specs.Day.{rain_on};
@@ -13,14 +15,14 @@ ghost use Rattle.planner.specs.Bank.{outlook_left, answer_left};
 use season::{Gross, Net, Season, SeasonDay};
 
 // A plan is made: how many depths are above 0, and the totals. Or it is refused: document 01's number, and the number returned with it.
-#[derive(Drop)]
+#[derive(Clone, Copy)]
 pub enum Planned {
     Made(u32, Net, Gross),
     Refused(u32, usize),
 }
 
 // What planning reads of a day.
-#[derive(Drop)]
+#[derive(Clone, Copy)]
 struct DayOutlook {
     water: u32,
     need: u32,
@@ -30,7 +32,7 @@ struct DayOutlook {
 
 // What the pass over the days carries: the depletion, and what it would be had the latest turn day since the last watering been filled;
 // that day, and the depth that fills it. Where there is no such day, or nothing to fill on it, the two are equal.
-#[derive(Drop)]
+#[derive(Clone, Copy)]
 struct Track {
     depletion: u32,
     filled: u32,
@@ -39,7 +41,7 @@ struct Track {
 }
 
 // The depths are made, or the day that no choice holds.
-#[derive(Drop)]
+#[derive(Clone, Copy)]
 enum Drawn {
     Whole,
     Lost(u32),

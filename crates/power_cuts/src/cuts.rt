@@ -3,12 +3,14 @@
 ghost use Rattle.std.specs.Prelude.{◌≡◌, length};
 
 use crate::model::{Block, EntryBytes, Totals};
-use crate::{compare, loose, model, print, print_number};
+use crate::{compare, loose, model};
 use journal::Recorded;
+use std::io;
+use std::io::Print;
 use trial::saturating_add;
 
 // The model's state but for its entries, which stand in an array beside it, and whether all answers were the same so far.
-#[derive(Drop)]
+#[derive(Clone, Copy)]
 struct Book {
     count: usize,
     loose: usize,
@@ -17,7 +19,7 @@ struct Book {
 }
 
 // A cut: the call, how many of its stores are done, and how many of those of the opening behind it; 4 where no opening's are done.
-#[derive(Drop)]
+#[derive(Clone, Copy)]
 struct Cut {
     call: usize,
     done: usize,
@@ -375,7 +377,7 @@ fn play_on(
 ) -> bool {
     let mut area = blank();
     let mut entries = no_calls();
-    let n = io::count(size, &area);
+    let n = trial::count(size, &area);
     play(
         climate,
         block,
@@ -389,13 +391,14 @@ fn play_on(
 
 // Every cut of a call: after 0 to 3 of its stores, and then no opening's stores done, or an opening cut after 0 to 3 of its own.
 fn cut_call(
+    rt: &impl Print,
     climate: &[u8],
     block: &[u8],
     numbers: Block,
     size: isize,
     history: &[u32],
     call: usize,
-) -> bool {
+) -> io::Result<bool> {
     let mut k: usize = 0;
     while k < 20 {
         let cut = Cut {
@@ -404,40 +407,36 @@ fn cut_call(
             reopened: k % 5,
         };
         if !play_on(climate, block, numbers, size, history, cut) {
-            print_cut(cut);
-            return false;
+            print_cut(rt, cut)?;
+            return Ok(false);
         }
         k += 1;
     }
-    true
+    Ok(true)
 }
 
-fn print_cut(cut: Cut) {
-    print(b"difference: call ");
-    print_number(cut.call as u64);
-    print(b" cut after ");
-    print_number(cut.done as u64);
-    print(b" stores, the opening after ");
-    print_number(cut.reopened as u64);
-    print(b"\n");
+fn print_cut(rt: &impl Print, cut: Cut) -> io::Result<()> {
+    let Cut { call, done, reopened } = cut;
+    println!(rt; "difference: call {call} cut after {done} stores, the opening after {reopened}")
 }
 
 // Cuts every call of a history; how many calls were cut, or 0 at the first difference.
 pub fn cut_calls(
+    rt: &impl Print,
     climate: &[u8],
     block: &[u8],
     numbers: Block,
     size: isize,
     history: &[u32],
-) -> u64 {
+) -> io::Result<u64> {
     let mut i: usize = 0;
     let mut count: u64 = 0;
     while i < history.len() {
-        if !cut_call(climate, block, numbers, size, history, i) {
-            return 0;
+        if !cut_call(rt, climate, block, numbers, size, history, i)? {
+            return Ok(0);
         }
         count = saturating_add(count, 1);
         i += 1;
     }
-    count
+    Ok(count)
 }

@@ -1,11 +1,13 @@
 // Soil probes (document 02, T-07): what a block's shallow and deep probe say of the water content, and the depletion that it means.
 // Contents are ten-thousandths of the soil's volume.
+#![tactic(auto)]
+
 ghost use Rattle.std.specs.Prelude.{◌≡◌, true, ◌≤◌};
 ghost use Rattle.probes.specs.Contents.{is_content, ten_thousandths, content_of, pair_of, single_of, reading_of};
 ghost use Rattle.probes.specs.Depletion.{measured};
 
 // A probe answers a water content, its supply voltage where the battery is low, or nothing.
-#[derive(Drop)]
+#[derive(Clone, Copy)]
 pub enum Probe {
     Water(f32),
     Low(f32),
@@ -13,14 +15,14 @@ pub enum Probe {
 }
 
 // Both probes' contents.
-#[derive(Drop)]
+#[derive(Clone, Copy)]
 pub struct Pair {
     pub shallow: f32,
     pub deep: f32,
 }
 
 // What the probes say: a content; one that is no number from 0 to 1 (refusal 18); none (refusal 19).
-#[derive(Drop)]
+#[derive(Clone, Copy)]
 pub enum Reading {
     Content(u32),
     Wrong,

@@ -1,5 +1,7 @@
 // A block's season (document 01): the sheet's numbers, the calendar, a day's numbers, closing a day, net and gross depths.
 // Depths are points, hundredths of a millimetre.
+#![tactic(auto)]
+
 mod carried;
 mod close;
 mod dates;
@@ -28,7 +30,7 @@ pub const LONGEST_SEASON: usize = 275;
 // The numbers of a sheet, by name: fields 1 and 2 the start, 3 to 6 the stages, 7 to 9 the crop coefficients, 10 to 21 ETo and
 // 22 to 33 dependable rain by month, 34 available water A, 35 and 36 root depth Z0 and Zm, 37 depletion fraction p, 38 efficiency E,
 // 39 opening depletion, 40 turns, 41 the days of February.
-#[derive(Drop)]
+#[derive(Clone, Copy)]
 pub struct Season {
     pub month: u32,
     pub first: u32,
@@ -52,14 +54,14 @@ pub struct Season {
 }
 
 // A calendar day: the month and the day of the month, each from 1.
-#[derive(Drop)]
+#[derive(Clone, Copy)]
 pub struct Date {
     pub month: u32,
     pub day: u32,
 }
 
 // Kc within one stage: `top` / `bottom` on a day, and `rise` more over the same bottom on each of the `left` days after it.
-#[derive(Drop)]
+#[derive(Clone, Copy)]
 struct Slope {
     top: u32,
     bottom: u32,
@@ -71,7 +73,7 @@ struct Slope {
 // date, and its month's length and effective rain. Crop need is `top` / (100 × L), where half a point is in `top`; the `left` days after
 // this one are of its month and its stage, and there `top` is `rise` more each day. Then the reciprocal of 100 × L; effective rain
 // times the reciprocal of the month's length, and what the roots grow times the reciprocal of G.
-#[derive(Drop)]
+#[derive(Clone, Copy)]
 pub struct SeasonDay {
     pub number: u32,
     pub month: u32,
@@ -87,14 +89,14 @@ pub struct SeasonDay {
 }
 
 // A crop coefficient in hundredths, top / bottom, not rounded.
-#[derive(Drop)]
+#[derive(Clone, Copy)]
 pub struct Kc {
     pub top: u32,
     pub bottom: u32,
 }
 
 // The stages of a season, in their order.
-#[derive(Drop)]
+#[derive(Clone, Copy)]
 pub enum Stage {
     Initial,
     Development,
@@ -103,7 +105,7 @@ pub enum Stage {
 }
 
 // What closing a day makes: the crop need, crop use, percolation and the new depletion.
-#[derive(Drop)]
+#[derive(Clone, Copy)]
 pub struct DayClose {
     pub need: u32,
     pub used: u32,
@@ -112,11 +114,11 @@ pub struct DayClose {
 }
 
 // A depth as the crop gets it.
-#[derive(Drop)]
+#[derive(Clone, Copy)]
 pub struct Net(pub u32);
 
 // A depth as it is let in at the gate. Only `gross_of` makes one.
-#[derive(Drop)]
+#[derive(Clone, Copy)]
 pub struct Gross(u32);
 
 // n.

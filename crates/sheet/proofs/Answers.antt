@@ -112,8 +112,8 @@ module _ (bytes out : List ℕ) where
 
   -- or copied.
   pub copied_written : {count : ℕ} {copied last : List ℕ} → length bytes ≤ length out → count ≡ length bytes → copied ≡ bytes
-      → last ≡ take (length copied) copied ++ drop (length copied) out → (Made count, last) ≡ bytes_written [] bytes out
-  copied_written h n b l = rw (l, b, n, take-length bytes) (sym (write_whole [] bytes out refl h))
+      → last ≡ copied ++ drop count out → (Made count, last) ≡ bytes_written [] bytes out
+  copied_written h n b l = rw (l, b, n) (sym (write_whole [] bytes out refl h))
 
 -- The bytes made, taken from the array that they were made in.
 pub bytes_taken : (bytes l₀ l : List ℕ) (count : ℕ) → length bytes ≤ length l₀ → count ≡ length bytes → l ≡ sets l₀ 0 bytes → take count l ≡ bytes

@@ -1,5 +1,7 @@
 // The two sheets of a season (document 02, T-08), read by document 01's rules: a climate sheet has twenty-four numbers one after another, a block
 // sheet sixteen, or seventeen with the days of February (T-06); refusals 1 to 7. And both writers (T-02).
+#![tactic(auto)]
+
 ghost use Rattle.std.specs.Prelude.{◌+◌, ◌-◌, ◌≤◌, ◌≡◌, [], ◌++◌, length, take, drop};
 ghost use Rattle.std.proofs.lemmas.List.Edits.{sets};
 ghost use Rattle.leb128.specs.Groups.{encode};
@@ -15,7 +17,7 @@ use season::Season;
 use verdict::Verdict;
 
 // A climate sheet's numbers, ETo and dependable rain by month; all 0 where the sheet is refused.
-#[derive(Drop)]
+#[derive(Clone, Copy)]
 pub struct Climate {
     pub eto: [u32; 12],
     pub rain: [u32; 12],
@@ -23,21 +25,21 @@ pub struct Climate {
 }
 
 // The season of a climate sheet and a block sheet; where one is refused it is all 0 but for February's days, which are 28.
-#[derive(Drop)]
+#[derive(Clone, Copy)]
 pub struct Sheet {
     pub season: Season,
     pub verdict: Verdict,
 }
 
 // What the writer answers: how many bytes the sheet has, or a refusal.
-#[derive(Drop)]
+#[derive(Clone, Copy)]
 pub enum Written {
     Made(usize),
     Refused(u32, usize),
 }
 
 // What reading answers: how many numbers a sheet has, or a refusal.
-#[derive(Drop)]
+#[derive(Clone, Copy)]
 enum Reading {
     Whole(usize),
     Refused(u32, usize),
@@ -283,7 +285,8 @@ fn write_numbers(numbers: &[u32], most: usize, sheet: &mut [u8]) -> Written
     if sheet.len() < count {
         return Written::Refused(15, 0);
     }
-    bytes::copy(&made[..count], sheet);
+    let part = &mut sheet[..count];
+    part.copy_from_slice(&made[..count]);
     Written::Made(count)
 }
 

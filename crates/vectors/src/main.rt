@@ -9,6 +9,7 @@
 // a block sheet by their fields, and then up to four bytes that the journal starts with; one that starts with '+' is a
 // day; one that starts with '#' says where the figures are printed. February has 28 days there, and no forty-first number
 // is written, unless a figure's inputs set field 41.
+#![tactic(auto)]
 mod banks;
 mod ledger;
 mod probing;
@@ -22,7 +23,7 @@ use text::{print, print_number};
 use trial::{get, put, put_byte, saturating_add};
 
 // How many figures were compared, how many of them differ for a known reason, and how many are not as they should be.
-#[derive(Drop)]
+#[derive(Clone, Copy)]
 struct Tally {
     figures: u64,
     known: u64,
@@ -30,7 +31,7 @@ struct Tally {
 }
 
 // What a line was: no figure, one that agrees, one that differs as its reason says, or a mismatch.
-#[derive(Drop)]
+#[derive(Clone, Copy)]
 enum Outcome {
     Nothing,
     Agrees,

@@ -11,7 +11,7 @@ use trial::{get, put_behind, saturating_add};
 use verdict::Verdict;
 
 // A day's numbers: n of its season, Kc in thousandths of a hundredth, the date as month × 100 + day, C, T and R.
-#[derive(Drop)]
+#[derive(Clone, Copy)]
 pub struct DayNumbers {
     pub days: u32,
     pub kc: u64,

@@ -43,7 +43,7 @@ pub fn place_of(text: &[u8], from: usize, byte: u8) -> usize
 }
 
 // A line while it is read: how many numbers are behind, the number at hand, and whether a digit of it was met.
-#[derive(Drop)]
+#[derive(Clone, Copy)]
 struct Reading {
     count: usize,
     value: u32,
