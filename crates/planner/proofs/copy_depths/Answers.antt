@@ -1,8 +1,7 @@
 -- `planner::copy_depths` meets its contract: after i turns the first i depths are copied. Assumes nothing.
 use Rattle.planner.proofs.Lists.{copied_more, copied_length, copied_all}
 use native.Mathlib.Omega.{arith}
-use mathlib.Core.Path.{◌≡◌, refl, ◌∙◌}
-use Prim.Native.Nat.{◌≤◌, ◌-◌}
+use mathlib.Core.Path.{refl, ◌∙◌}
 use Rattle.planner.proofs.copy_depths.Goals as goal
 
 pub loop-i-init : goal.loop-i-init

@@ -1,6 +1,6 @@
 -- `planner::copy_depths` meets its contract: after i turns the first i depths are copied. Assumes nothing.
 use Rattle.planner.proofs.Lists.{copied}
-use mathlib.Core.Path.{◌≡◌, ◌∙◌}
+use mathlib.Core.Path.{◌≡◌}
 use Prim.Native.Nat.{◌≤◌, ◌-◌}
 use lib.ListN.{length}
 use Rattle.planner.proofs.copy_depths.Given as goal

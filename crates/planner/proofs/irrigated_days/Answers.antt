@@ -1,7 +1,6 @@
 -- `planner::irrigated_days` meets its contract: after i turns the first i depths are counted. Assumes nothing.
 use native.Mathlib.Omega.{arith}
-use mathlib.Core.Path.{◌≡◌, refl, ◌∙◌, ap}
-use Prim.Native.Nat.{◌≤◌, ◌-◌}
+use mathlib.Core.Path.{refl, ◌∙◌, ap}
 use lib.Seq.{take_all}
 use Rattle.planner.specs.Choices.{irrigated}
 use Rattle.planner.proofs.Lists.{irrigated_watered, irrigated_unwatered}

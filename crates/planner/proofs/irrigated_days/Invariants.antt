@@ -1,5 +1,5 @@
 -- `planner::irrigated_days` meets its contract: after i turns the first i depths are counted. Assumes nothing.
-use mathlib.Core.Path.{◌≡◌, ◌∙◌}
+use mathlib.Core.Path.{◌≡◌}
 use Prim.Native.Nat.{◌≤◌, ◌-◌}
 use lib.ListN.{length, take}
 use Rattle.planner.specs.Choices.{irrigated}

@@ -1,8 +1,7 @@
 -- `planner::net_total` meets its contract: after i turns the first i depths are summed. Assumes nothing.
 use Prim.Native.Nat.{ℕ, ◌+◌}
 use native.Mathlib.Omega.{arith}
-use mathlib.Core.Path.{◌≡◌, refl, ◌∙◌, ap}
-use Prim.Native.Nat.{◌≤◌, ◌-◌}
+use mathlib.Core.Path.{refl, ◌∙◌, ap}
 use lib.Seq.{take_all}
 use Rattle.planner.specs.Answer.{sum}
 use Rattle.planner.proofs.Lists.{sum_more, sum_part}

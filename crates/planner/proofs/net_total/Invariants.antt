@@ -1,6 +1,5 @@
 -- `planner::net_total` meets its contract: after i turns the first i depths are summed. Assumes nothing.
-use Prim.Native.Nat.{◌+◌}
-use mathlib.Core.Path.{◌≡◌, ◌∙◌}
+use mathlib.Core.Path.{◌≡◌}
 use Prim.Native.Nat.{◌≤◌, ◌-◌}
 use lib.ListN.{length, take}
 use Rattle.planner.specs.Answer.{sum}
