@@ -127,10 +127,10 @@ pub fn number_of(climate: &[u8], fields: [u32; 41], numbers: &[u32]) -> u64 {
     let mut depths = [7u32; 210];
     let mut answers = [8u32; ANSWERS];
     lay_blocks(fields, numbers, &mut lengths, &mut sheets, &mut areas);
-    let c = io::count(get(numbers, 7) as isize, climate);
+    let c = trial::count(get(numbers, 7) as isize, climate);
     let l = count(get(numbers, 10), &lengths);
-    let s = io::count(get(numbers, 11) as isize, &sheets);
-    let a = io::count(get(numbers, 12) as isize, &areas);
+    let s = trial::count(get(numbers, 11) as isize, &sheets);
+    let a = trial::count(get(numbers, 12) as isize, &areas);
     let d = count(get(numbers, 13), &depths);
     asked(
         &climate[..c],

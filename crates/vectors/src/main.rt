@@ -19,7 +19,9 @@ mod sheets;
 mod text;
 mod writing;
 
-use text::{print, print_number};
+use std::io::Print;
+use std::rt::Files;
+use std::{fs, io};
 use trial::{get, put, put_byte, saturating_add};
 
 // How many figures were compared, how many of them differ for a known reason, and how many are not as they should be.
@@ -70,49 +72,39 @@ impl Tally {
         }
     }
 
-    fn print(self, what: &[u8]) {
-        print(what);
-        print(b": ");
-        print_number(self.figures);
-        print(b" figures compared, ");
-        print_number(self.known);
-        print(b" differ for a known reason, ");
-        print_number(self.wrong);
-        print(b" mismatches\n");
+    fn print(self, rt: &impl Print, what: &str) -> io::Result<()> {
+        let Tally { figures, known, wrong } = self;
+        println!(rt; "{what}: {figures} figures compared, {known} differ for a known reason, {wrong} mismatches")
     }
 
     // Runs a group and prints its count; the count of all so far.
-    fn run(self, path: &[u8], rule: u32) -> Tally {
-        self.run_again(path, rule, path)
+    fn run<R: Files + Alloc + Print>(self, rt: &R, path: &str, rule: u32) -> io::Result<Tally> {
+        self.run_again(rt, path, rule, path)
     }
 
     // The same under another name, for a group that is asked a second question.
-    fn run_again(self, path: &[u8], rule: u32, name: &[u8]) -> Tally {
-        let group = read_group(path, rule);
-        group.print(name);
-        self.and(group)
+    fn run_again<R: Files + Alloc + Print>(
+        self,
+        rt: &R,
+        path: &str,
+        rule: u32,
+        name: &str,
+    ) -> io::Result<Tally> {
+        let group = read_group(rt, path, rule)?;
+        group.print(rt, name)?;
+        Ok(self.and(group))
     }
 }
 
-// How far off a figure with a reason has to be.
-fn print_deviation(numbers: &[u32]) {
-    print(b" off by more than ");
-    print_number(get(numbers, 1) as u64);
-    print(b" and at most ");
-    print_number(get(numbers, 3) as u64);
-}
-
-fn print_mismatch(line: &[u8], numbers: &[u32], got: u64) {
-    print(b"mismatch");
-    text::print_label(line);
-    print(b": expected ");
-    print_number(get(numbers, 0) as u64);
+fn print_mismatch(rt: &impl Print, line: &[u8], numbers: &[u32], got: u64) -> io::Result<()> {
+    print!(rt; "mismatch")?;
+    text::print_label(rt, line)?;
+    print!(rt; ": expected {}", get(numbers, 0))?;
     if get(numbers, 2) != 0 {
-        print_deviation(numbers);
+        // How far off a figure with a reason has to be.
+        print!(rt; " off by more than {} and at most {}", get(numbers, 1), get(numbers, 3))?;
     }
-    print(b", got ");
-    print_number(got);
-    print(b"\n");
+    println!(rt; ", got {got}")
 }
 
 // Whether a figure is off as its line says.
@@ -126,36 +118,37 @@ fn as_stated(numbers: &[u32], off: u64) -> bool {
 }
 
 // Compares the figure of a line with the product's answer.
-fn compared(line: &[u8], numbers: &[u32], got: u64) -> Outcome {
+fn compared(rt: &impl Print, line: &[u8], numbers: &[u32], got: u64) -> io::Result<Outcome> {
     if !as_stated(numbers, distance(got, get(numbers, 0) as u64)) {
-        print_mismatch(line, numbers, got);
-        return Outcome::Mismatch;
+        print_mismatch(rt, line, numbers, got)?;
+        return Ok(Outcome::Mismatch);
     }
     if get(numbers, 2) == 0 {
-        return Outcome::Agrees;
+        return Ok(Outcome::Agrees);
     }
-    Outcome::Differs
+    Ok(Outcome::Differs)
 }
 
 // A line of figures or of a day, by a rule.
 fn run_numbers(
+    rt: &impl Print,
     line: &[u8],
     rule: u32,
     fields: [u32; 41],
     balance: &mut [u32; 6],
     area: &mut [u8; 1024],
-) -> Outcome {
+) -> io::Result<Outcome> {
     let mut numbers = [0u32; 96];
     text::read_numbers(line, &mut numbers);
     if starts_with(line, b'+') {
         rules::run_day(rule, &numbers, fields, balance, area);
-        return Outcome::Nothing;
+        return Ok(Outcome::Nothing);
     }
     if rule < rules::BALANCE {
-        return compared(line, &numbers, rules::answer(rule, &numbers, fields));
+        return compared(rt, line, &numbers, rules::answer(rule, &numbers, fields));
     }
     let got = rules::answer_after_days(rule, &numbers, fields, balance, area);
-    compared(line, &numbers, got)
+    compared(rt, line, &numbers, got)
 }
 
 fn starts_with(line: &[u8], b: u8) -> bool {
@@ -175,29 +168,30 @@ fn lay_journal(line: &[u8], area: &mut [u8; 1024]) {
 
 // A line that starts with '=' has new sheets, on which no day is closed.
 fn run_line(
+    rt: &impl Print,
     line: &[u8],
     rule: u32,
     fields: &mut [u32; 41],
     balance: &mut [u32; 6],
     area: &mut [u8; 1024],
-) -> Outcome {
+) -> io::Result<Outcome> {
     if line.len() == 0 {
-        return Outcome::Nothing;
+        return Ok(Outcome::Nothing);
     }
     if starts_with(line, b'#') {
-        return Outcome::Nothing;
+        return Ok(Outcome::Nothing);
     }
     if starts_with(line, b'=') {
         text::read_numbers(line, fields);
         put(fields, 40, 28);
         *balance = [0; 6];
         lay_journal(line, area);
-        return Outcome::Nothing;
+        return Ok(Outcome::Nothing);
     }
-    run_numbers(line, rule, *fields, balance, area)
+    run_numbers(rt, line, rule, *fields, balance, area)
 }
 
-fn run_text(data: &[u8], rule: u32) -> Tally {
+fn run_text(rt: &impl Print, data: &[u8], rule: u32) -> io::Result<Tally> {
     let mut fields = [0u32; 41];
     let mut balance = [0u32; 6];
     let mut area = [255u8; 1024];
@@ -205,115 +199,115 @@ fn run_text(data: &[u8], rule: u32) -> Tally {
     let mut at: usize = 0;
     while at < data.len() {
         let end = text::place_of(data, at, b'\n');
-        let line = run_line(&data[at..end], rule, &mut fields, &mut balance, &mut area);
+        let line = run_line(rt, &data[at..end], rule, &mut fields, &mut balance, &mut area)?;
         all = all.and(counted(line));
         if data.len() <= end {
-            return all;
+            return Ok(all);
         }
         at = end + 1;
     }
-    all
+    Ok(all)
 }
 
 // The figures of a file, by a rule.
-fn read_group(path: &[u8], rule: u32) -> Tally {
-    let fd = os::open_read(path);
-    let mut data = io::large_buffer();
-    let n = io::read_full(fd, &mut data);
-    libc::close(fd);
-    run_text(&data[..n], rule)
+fn read_group<R: Files + Alloc + Print>(rt: &R, path: &str, rule: u32) -> io::Result<Tally> {
+    let data = fs::read(rt, path)?;
+    run_text(rt, &data, rule)
 }
 
 // Printed figures: the rules on numbers alone.
-fn run_rules(before: Tally) -> Tally {
-    before
-        .run(b"effective_rain", rules::RAIN)
-        .run(b"gross", rules::GROSS)
-        .run(b"net", rules::NET)
-        .run(b"stress", rules::USE)
-        .run(b"yield_response", rules::LOSS)
+fn run_rules<R: Files + Alloc + Print>(rt: &R, before: Tally) -> io::Result<Tally> {
+    let all = before
+        .run(rt, "effective_rain", rules::RAIN)?
+        .run(rt, "gross", rules::GROSS)?
+        .run(rt, "net", rules::NET)?
+        .run(rt, "stress", rules::USE)?
+        .run(rt, "yield_response", rules::LOSS)?;
+    Ok(all)
 }
 
 // Printed figures: a season's days and their numbers.
-fn run_days(before: Tally) -> Tally {
-    before
-        .run(b"lengths", rules::LENGTH)
-        .run(b"dates", rules::DATE)
-        .run(b"kc", rules::KC)
-        .run(b"mean_kc", rules::MEAN_KC)
-        .run(b"crop_need", rules::NEED)
-        .run(b"total_water", rules::TOTAL)
-        .run(b"percents", rules::PERCENT)
-        .run(b"ready_water", rules::READY)
+fn run_days<R: Files + Alloc + Print>(rt: &R, before: Tally) -> io::Result<Tally> {
+    let all = before
+        .run(rt, "lengths", rules::LENGTH)?
+        .run(rt, "dates", rules::DATE)?
+        .run(rt, "kc", rules::KC)?
+        .run(rt, "mean_kc", rules::MEAN_KC)?
+        .run(rt, "crop_need", rules::NEED)?
+        .run(rt, "total_water", rules::TOTAL)?
+        .run(rt, "percents", rules::PERCENT)?
+        .run(rt, "ready_water", rules::READY)?;
+    Ok(all)
 }
 
 // Printed figures: decade tables and intervals between waterings.
-fn run_seasons(before: Tally) -> Tally {
-    before
-        .run(b"decade_rows", rules::ROWS)
-        .run(b"decade_cells", rules::CELL)
-        .run(b"month_sums", rules::SUM)
-        .run(b"intervals", rules::HELD)
+fn run_seasons<R: Files + Alloc + Print>(rt: &R, before: Tally) -> io::Result<Tally> {
+    let all = before
+        .run(rt, "decade_rows", rules::ROWS)?
+        .run(rt, "decade_cells", rules::CELL)?
+        .run(rt, "month_sums", rules::SUM)?
+        .run(rt, "intervals", rules::HELD)?;
+    Ok(all)
 }
 
 // Printed figures whose bounds were set from the deviations seen.
-fn run_bounded(before: Tally) -> Tally {
-    before
-        .run(b"decade_sums", rules::SUM)
-        .run(b"daily_balances", rules::BALANCE)
+fn run_bounded<R: Files + Alloc + Print>(rt: &R, before: Tally) -> io::Result<Tally> {
+    let all = before
+        .run(rt, "decade_sums", rules::SUM)?
+        .run(rt, "daily_balances", rules::BALANCE)?;
+    Ok(all)
 }
 
 // Document 01's rules by a separate reading of them: what no source prints.
-fn run_exact_rules(before: Tally) -> Tally {
-    before
-        .run(b"rule_rain", rules::RAIN)
-        .run(b"rule_ready", rules::READY)
-        .run(b"rule_gross", rules::GROSS)
-        .run(b"rule_use", rules::USE)
-        .run(b"rule_loss", rules::LOSS)
-        .run(b"rule_contents", rules::CONTENT)
-        .run(b"rule_refusals", rules::REFUSAL)
-        .run_again(
-            b"rule_refusals",
-            rules::WRITE,
-            b"rule_refusals, of the writers",
-        )
-        .run(b"rule_bytes", rules::BYTES)
-        .run(b"rule_climate_writing", rules::CLIMATE)
-        .run(b"rule_block_writing", rules::BLOCK)
-        .run(b"rule_dates", rules::DATE)
-        .run(b"rule_journal", rules::JOURNAL)
-        .run(b"rule_losses", rules::JOURNAL)
-        .run(b"rule_probes", rules::PROBE)
-        .run(b"rule_roles", rules::ROLE)
-        .run(b"rule_bank", rules::BANK)
+fn run_exact_rules<R: Files + Alloc + Print>(rt: &R, before: Tally) -> io::Result<Tally> {
+    let all = before
+        .run(rt, "rule_rain", rules::RAIN)?
+        .run(rt, "rule_ready", rules::READY)?
+        .run(rt, "rule_gross", rules::GROSS)?
+        .run(rt, "rule_use", rules::USE)?
+        .run(rt, "rule_loss", rules::LOSS)?
+        .run(rt, "rule_contents", rules::CONTENT)?
+        .run(rt, "rule_refusals", rules::REFUSAL)?
+        .run_again(rt, "rule_refusals", rules::WRITE, "rule_refusals, of the writers")?
+        .run(rt, "rule_bytes", rules::BYTES)?
+        .run(rt, "rule_climate_writing", rules::CLIMATE)?
+        .run(rt, "rule_block_writing", rules::BLOCK)?
+        .run(rt, "rule_dates", rules::DATE)?
+        .run(rt, "rule_journal", rules::JOURNAL)?
+        .run(rt, "rule_losses", rules::JOURNAL)?
+        .run(rt, "rule_probes", rules::PROBE)?
+        .run(rt, "rule_roles", rules::ROLE)?
+        .run(rt, "rule_bank", rules::BANK)?;
+    Ok(all)
 }
 
 // Document 01's rules by a separate reading of them: whole seasons.
-fn run_exact_seasons(before: Tally) -> Tally {
-    before
-        .run(b"season_climates", rules::CLIMATE)
-        .run(b"season_blocks", rules::BLOCK)
-        .run(b"season_rows", rules::ROWS)
-        .run(b"season_tables", rules::CELL)
-        .run(b"season_plans", rules::PLAN)
-        .run(b"season_depths", rules::DEPTH)
-        .run(b"season_journals", rules::JOURNAL)
-        .run(b"season_losses", rules::JOURNAL)
+fn run_exact_seasons<R: Files + Alloc + Print>(rt: &R, before: Tally) -> io::Result<Tally> {
+    let all = before
+        .run(rt, "season_climates", rules::CLIMATE)?
+        .run(rt, "season_blocks", rules::BLOCK)?
+        .run(rt, "season_rows", rules::ROWS)?
+        .run(rt, "season_tables", rules::CELL)?
+        .run(rt, "season_plans", rules::PLAN)?
+        .run(rt, "season_depths", rules::DEPTH)?
+        .run(rt, "season_journals", rules::JOURNAL)?
+        .run(rt, "season_losses", rules::JOURNAL)?;
+    Ok(all)
 }
 
-fn main() {
+fn main(rt: HostRuntime) -> io::Result<()> {
+    let rt = &rt;
     let none = tally_of(0, 0, 0);
-    let printed = run_seasons(run_days(run_rules(none)));
-    printed.print(b"printed, at the printed precision");
-    let bounded = run_bounded(none);
-    bounded.print(b"printed, within bounds set from the deviations seen");
+    let printed = run_seasons(rt, run_days(rt, run_rules(rt, none)?)?)?;
+    printed.print(rt, "printed, at the printed precision")?;
+    let bounded = run_bounded(rt, none)?;
+    bounded.print(rt, "printed, within bounds set from the deviations seen")?;
     let sheets = none
-        .run(b"refusals", rules::REFUSAL)
-        .run_again(b"refusals", rules::WRITE, b"refusals, of the writers")
-        .run(b"ky", rules::JOURNAL);
-    sheets.print(b"printed sheets and Ky, accepted or refused by the documents' rules");
-    let exact = run_exact_seasons(run_exact_rules(none));
-    exact.print(b"document 01's rules by a separate reading");
-    printed.and(bounded).and(sheets).and(exact).print(b"all");
+        .run(rt, "refusals", rules::REFUSAL)?
+        .run_again(rt, "refusals", rules::WRITE, "refusals, of the writers")?
+        .run(rt, "ky", rules::JOURNAL)?;
+    sheets.print(rt, "printed sheets and Ky, accepted or refused by the documents' rules")?;
+    let exact = run_exact_seasons(rt, run_exact_rules(rt, none)?)?;
+    exact.print(rt, "document 01's rules by a separate reading")?;
+    printed.and(bounded).and(sheets).and(exact).print(rt, "all")
 }

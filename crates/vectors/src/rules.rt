@@ -224,8 +224,8 @@ fn of_fields(rule: u32, own: [u32; 41], a: u32, b: u32) -> u64 {
         _ => {
             let mut climate = [0u8; 73];
             let mut block = [0u8; 52];
-            let n = io::count(sheets::write_climate(own, &mut climate), &climate);
-            let m = io::count(sheets::write_block(own, &mut block), &block);
+            let n = trial::count(sheets::write_climate(own, &mut climate), &climate);
+            let m = trial::count(sheets::write_block(own, &mut block), &block);
             of_sheets(rule, &climate[..n], &block[..m], a, b)
         }
     }
@@ -237,8 +237,8 @@ fn of_bytes(numbers: &[u32], a: u32, b: u32) -> u64 {
     let mut block = [0u8; 52];
     text::lay_bytes(numbers, 6, &mut climate);
     text::lay_bytes(numbers, trial::saturating_add(6, a as u64), &mut block);
-    let n = io::count(a as isize, &climate);
-    let m = io::count(b as isize, &block);
+    let n = trial::count(a as isize, &climate);
+    let m = trial::count(b as isize, &block);
     sheets::refusal(&climate[..n], &block[..m])
 }
 
@@ -272,8 +272,8 @@ pub fn answer_after_days(
     }
     let mut climate = [0u8; 73];
     let mut block = [0u8; 52];
-    let n = io::count(sheets::write_climate(fields, &mut climate), &climate);
-    let m = io::count(sheets::write_block(fields, &mut block), &block);
+    let n = trial::count(sheets::write_climate(fields, &mut climate), &climate);
+    let m = trial::count(sheets::write_block(fields, &mut block), &block);
     if rule == BANK {
         return banks::number_of(&climate[..n], fields, numbers);
     }
@@ -310,8 +310,8 @@ pub fn run_day(
 ) {
     let mut climate = [0u8; 73];
     let mut block = [0u8; 52];
-    let n = io::count(sheets::write_climate(fields, &mut climate), &climate);
-    let m = io::count(sheets::write_block(fields, &mut block), &block);
+    let n = trial::count(sheets::write_climate(fields, &mut climate), &climate);
+    let m = trial::count(sheets::write_block(fields, &mut block), &block);
     let a = get(numbers, 0);
     let b = get(numbers, 1);
     if rule == BALANCE {

@@ -2,7 +2,8 @@
 // its label stands behind.
 ghost use Rattle.std.specs.Prelude.{◌≤◌, length};
 
-use libc::STDOUT_FILENO;
+use std::io;
+use std::io::Print;
 use trial::{get, narrow, put, put_byte, saturating_add};
 
 pub fn is_digit(b: u8) -> bool {
@@ -101,16 +102,8 @@ pub fn lay_bytes(numbers: &[u32], from: u64, bytes: &mut [u8]) {
     }
 }
 
-pub fn print(text: &[u8]) {
-    io::write_all(STDOUT_FILENO, text);
-}
-
-pub fn print_number(n: u64) {
-    io::print_decimal(STDOUT_FILENO, n);
-}
-
 // A line's label.
-pub fn print_label(line: &[u8]) {
+pub fn print_label(rt: &impl Print, line: &[u8]) -> io::Result<()> {
     let at = place_of(line, 0, b';');
-    print(&line[at..]);
+    rt.write_all(&line[at..])
 }
