@@ -1,6 +1,6 @@
 -- How many rows a season's table has: the decades of the year that its days reach, 36 a year. A season is shorter than a year, so it goes over the
 -- year's end once at most. A decade has ten days, give or take.
-use mathlib.Core.Path.{◌≡◌, refl, sym, ◌∙◌, ap}
+use mathlib.Core.Path.{◌≡◌, refl, sym, ◌∙◌, ap, subst}
 use mathlib.Core.Bool.{Bool, true, false}
 use mathlib.Core.List.{List, [], ◌∷◌}
 use mathlib.Core.Logic.{◌⊎◌, inl, inr}
@@ -113,7 +113,9 @@ module _ (s : Season) (v : Valid s) (t : SeasonDay) (is : t ≡ day_of s (season
 
   reached : (j : ℕ) → season_days s ≡ suc j → j < longest_season → Round s.february first last j (row_count s)
   unfolding date_of days_on
-  reached j e h = rw (← last_is, e) (along s v j h).round
+  reached j e h =
+      subst (λ (u : Date). Round s.february first u j (row_count s)) last_is
+      (subst (λ (n : ℕ). Round s.february first (date_of s n) j (length (rows_to s n))) (sym e) (along s v j h).round)
 
   -- Over the year's end, or within a year.
   pub count_over : 32 * t.month + t.day < 32 * s.month + s.first

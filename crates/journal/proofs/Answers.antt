@@ -25,8 +25,7 @@ use Rattle.journal.specs.declared.Stores.{Stores}
 use Rattle.journal.specs.declared.Recorded.{Recorded}
 use Rattle.journal.specs.declared.Opened.{Opened}
 use Rattle.journal.specs.Entries.{refusal}
-use Rattle.journal.specs.Opening.{behind, is_blank, opening, replayed, torn_at, trim, value}
-use Rattle.journal.specs.Specified.{clean}
+use Rattle.journal.specs.Opening.{behind, is_blank, opening, replayed, torn_at, trim}
 use Rattle.journal.specs.Calls.{recorded_with, opened, opened_on, opened_with, no_stores, recorded, recorded_on, wipe, wipe_places, wipes_in, stores_of}
 use Rattle.journal.specs.Loss.{loss_refusals}
 use Rattle.journal.specs.Carried.{Bounded}

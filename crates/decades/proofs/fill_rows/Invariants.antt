@@ -1,6 +1,5 @@
 -- The loop is the walk over the days of proofs/Rows.antt, with the buffer, a stretch of days at a turn.
-use mathlib.Core.Path.{◌≡◌, ◌∙◌}
-use Prim.Native.Nat.{◌+◌, ◌-◌, ◌<◌}
+use Prim.Native.Nat.{◌-◌}
 use Rattle.decades.proofs.Rows.{Filling}
 use Rattle.decades.proofs.fill_rows.Given as goal
 

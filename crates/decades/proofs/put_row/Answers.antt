@@ -1,5 +1,4 @@
 -- The six numbers are stored one by one.
-use Prim.Native.Nat.{◌-◌}
 use mathlib.Core.Path.{refl, ◌∙◌}
 use native.Mathlib.Omega.{arith}
 use Rattle.decades.specs.Table.{six}

@@ -1,6 +1,5 @@
 -- The six numbers are stored one by one.
 use Prim.Native.Nat.{◌-◌}
-use mathlib.Core.Path.{◌∙◌}
 use Rattle.season.proofs.Stores.{Putting}
 use Rattle.decades.proofs.put_row.Given as goal
 

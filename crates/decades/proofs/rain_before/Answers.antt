@@ -7,5 +7,4 @@ pub overflow_sub-t : goal.overflow_sub-t
 overflow_sub-t c = omega (arith, day_small c.requires.valid c.requires.on_day)
 
 pub rain_to-requires : goal.rain_to-requires
-rain_to-requires c = let p = c.requires in
-    record { valid = p.0; on_day = p.1; d_bound = omega (arith, day_small p.0 p.1) }
+rain_to-requires c = record { valid = c.requires.valid; on_day = c.requires.on_day; d_bound = omega (arith, day_small c.requires.valid c.requires.on_day) }
