@@ -1,6 +1,7 @@
 // An answer's numbers, written over the first numbers of the caller's array: document 01's number (0 accepted or clean, 10 torn, else the refusal), the number
 // returned with it, then the answer. Numbers beyond the answer stay.
 #![tactic(auto)]
+
 ghost use Rattle.std.specs.Prelude.{◌≡◌, [], ◌∷◌, ◌++◌, ◌≤◌, get_or};
 ghost use Rattle.journal.specs.Entries.{ledger_numbers};
 ghost use Rattle.journal.specs.Loss.{loss_numbers};

@@ -2,6 +2,7 @@
 // no turn day for those behind them. All blocks are judged before anything is written. What a block's own refusal is to the bank, and where its parts
 // lie, is in specs/.
 #![tactic(auto)]
+
 mod judging;
 mod lengths;
 mod planning;

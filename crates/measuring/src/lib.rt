@@ -1,6 +1,7 @@
 // What a block's soil probes say beside the ledger of its journal (document 02, T-07): the ledger's depletion and the measured one, or the first refusal
 // that applies: 8 to 11, 18 and 19. It looks only: there are no stores.
 #![tactic(auto)]
+
 ghost use Rattle.std.specs.Prelude.{◌≡◌, ◌||◌, ◌≤◌};
 ghost use Rattle.season.specs.Sheet.{Valid, DayOf};
 ghost use Rattle.season.specs.Day.{root_on, total_on, AcceptedSeason};
