@@ -2,6 +2,7 @@
 // buffers. Each is made by a role, and gives the first refusal that applies, with document 01's number. Nothing here stores to the area: the stores are
 // handed back, and the firmware does them in the order given. A public call judges the role and leaves the rest to a function without one.
 #![tactic(auto)]
+
 ghost use Rattle.std.specs.Prelude.{◌≡◌};
 ghost use Rattle.verdict.specs.declared.Verdict.TheVariants.{Accepted};
 ghost use Rattle.verdict.specs.Refusals.{first_of};
