@@ -1,6 +1,7 @@
 // The controller's calls for C and Rust (include/balladsky.h), each by a role. It writes its answer's numbers over the first numbers of `out`: document 01's
 // number (0 accepted or clean, 10 torn, else the refusal), the number returned with it, then the answer. Numbers beyond the answer stay.
 #![tactic(auto)]
+
 ghost use Rattle.std.specs.Prelude.{◌≡◌};
 ghost use Rattle.verdict.specs.Refusals as verdicts;
 ghost use Rattle.journal.specs.declared.Entry.TheVariants.{Water, Close};

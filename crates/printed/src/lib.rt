@@ -1,5 +1,6 @@
 // The decade table as text: fields parted by one space, each line ended by byte 0A, no header.
 #![tactic(auto)]
+
 ghost use Rattle.std.specs.Prelude.{◌≡◌, ◌+◌, ◌*◌, ◌≤◌, length, take};
 ghost use Rattle.std.proofs.lemmas.List.Edits.{sets};
 ghost use Rattle.printed.specs.Text.{decimal, cell, ending, cells, printed_to};
