@@ -371,7 +371,7 @@ fn play_on(
     climate: &[u8],
     block: &[u8],
     numbers: Block,
-    size: isize,
+    size: u64,
     history: &[u32],
     cut: Cut,
 ) -> bool {
@@ -395,7 +395,7 @@ fn cut_call(
     climate: &[u8],
     block: &[u8],
     numbers: Block,
-    size: isize,
+    size: u64,
     history: &[u32],
     call: usize,
 ) -> io::Result<bool> {
@@ -416,7 +416,11 @@ fn cut_call(
 }
 
 fn print_cut(rt: &impl Print, cut: Cut) -> io::Result<()> {
-    let Cut { call, done, reopened } = cut;
+    let Cut {
+        call,
+        done,
+        reopened,
+    } = cut;
     println!(rt; "difference: call {call} cut after {done} stores, the opening after {reopened}")
 }
 
@@ -426,7 +430,7 @@ pub fn cut_calls(
     climate: &[u8],
     block: &[u8],
     numbers: Block,
-    size: isize,
+    size: u64,
     history: &[u32],
 ) -> io::Result<u64> {
     let mut i: usize = 0;

@@ -1,6 +1,7 @@
 // Histories of calls, the power cut after every single store of every call: each call's answer, and the opening and the losses after it, are
 // compared with the model's. Role 2 enters and role 3 opens; a call by another role leaves the journal, and the model says so.
 #![tactic(auto)]
+
 mod compare;
 mod cuts;
 mod histories;
@@ -20,7 +21,7 @@ fn report(rt: &impl Print, calls: u64, what: &str) -> io::Result<bool> {
 }
 
 // A history on the small pair of sheets.
-fn cut_small(rt: &impl Print, size: isize, history: &[u32], what: &str) -> io::Result<bool> {
+fn cut_small(rt: &impl Print, size: u64, history: &[u32], what: &str) -> io::Result<bool> {
     let climate =
         b"\xf4\x03\x00\x00\x00\x00\x00\x00\x00\x00\x00\x00\x00\x00\x00\x00\x00\x00\x00\x00\x00\x00\x00\x00\x00";
     let block = b"\x01\x09\x01\x01\x01\x01\x28\x64\x3c\x64\x14\x14\x32\x4b\x00\x7f";
@@ -53,7 +54,7 @@ fn cut_leap(rt: &impl Print) -> io::Result<bool> {
     report(rt, calls, "days without water, over the leap day")
 }
 
-fn cut_narrow(rt: &impl Print, size: isize, what: &str) -> io::Result<bool> {
+fn cut_narrow(rt: &impl Print, size: u64, what: &str) -> io::Result<bool> {
     let history = histories::NARROW;
     cut_small(rt, size, &history, what)
 }
@@ -80,7 +81,8 @@ fn main(rt: HostRuntime) -> io::Result<()> {
         && cut_long(&rt)?
     {
         println!(rt;
-            "each after 0 to 3 stores, opened by roles 1 and 2, with no opening's stores done or an opening by role 3 cut after 0 to 3: no difference")?;
+            "each after 0 to 3 stores, opened by roles 1 and 2, with no opening's stores done or an opening by role 3 cut after 0 to 3: no difference"
+        )?;
     }
     Ok(())
 }

@@ -1,6 +1,6 @@
 // What bank answers (document 02, T-10): its verdict, or a number of `answers` or `depths`, which are all 8 and all 7
 // before the call.
-ghost use Rattle.io.specs.Counts.{IsPrefixLen};
+ghost use Rattle.std.specs.Prelude.{◌≡◌, ◌≤◌, length, take};
 
 use crate::{rules, sheets, text, writing};
 use bank::ANSWERS;
@@ -78,7 +78,7 @@ fn changed(numbers: &[u32], was: u32) -> u64 {
 
 // So many of a buffer's numbers, at most all.
 fn count(n: u32, buffer: &[u32]) -> usize
-    ensures { IsPrefixLen result buffer.now }
+    ensures { (result ≤ length buffer.now) × (result ≡ length (take result buffer.now)) }
 {
     if n as usize <= buffer.len() {
         n as usize
@@ -127,10 +127,10 @@ pub fn number_of(climate: &[u8], fields: [u32; 41], numbers: &[u32]) -> u64 {
     let mut depths = [7u32; 210];
     let mut answers = [8u32; ANSWERS];
     lay_blocks(fields, numbers, &mut lengths, &mut sheets, &mut areas);
-    let c = trial::count(get(numbers, 7) as isize, climate);
+    let c = trial::count(get(numbers, 7) as u64, climate);
     let l = count(get(numbers, 10), &lengths);
-    let s = trial::count(get(numbers, 11) as isize, &sheets);
-    let a = trial::count(get(numbers, 12) as isize, &areas);
+    let s = trial::count(get(numbers, 11) as u64, &sheets);
+    let a = trial::count(get(numbers, 12) as u64, &areas);
     let d = count(get(numbers, 13), &depths);
     asked(
         &climate[..c],

@@ -10,6 +10,7 @@
 // day; one that starts with '#' says where the figures are printed. February has 28 days there, and no forty-first number
 // is written, unless a figure's inputs set field 41.
 #![tactic(auto)]
+
 mod banks;
 mod ledger;
 mod probing;
@@ -73,8 +74,14 @@ impl Tally {
     }
 
     fn print(self, rt: &impl Print, what: &str) -> io::Result<()> {
-        let Tally { figures, known, wrong } = self;
-        println!(rt; "{what}: {figures} figures compared, {known} differ for a known reason, {wrong} mismatches")
+        let Tally {
+            figures,
+            known,
+            wrong,
+        } = self;
+        println!(rt;
+            "{what}: {figures} figures compared, {known} differ for a known reason, {wrong} mismatches"
+        )
     }
 
     // Runs a group and prints its count; the count of all so far.
@@ -102,7 +109,11 @@ fn print_mismatch(rt: &impl Print, line: &[u8], numbers: &[u32], got: u64) -> io
     print!(rt; ": expected {}", get(numbers, 0))?;
     if get(numbers, 2) != 0 {
         // How far off a figure with a reason has to be.
-        print!(rt; " off by more than {} and at most {}", get(numbers, 1), get(numbers, 3))?;
+        print!(rt;
+            " off by more than {} and at most {}",
+            get(numbers, 1),
+            get(numbers, 3)
+        )?;
     }
     println!(rt; ", got {got}")
 }
@@ -199,7 +210,14 @@ fn run_text(rt: &impl Print, data: &[u8], rule: u32) -> io::Result<Tally> {
     let mut at: usize = 0;
     while at < data.len() {
         let end = text::place_of(data, at, b'\n');
-        let line = run_line(rt, &data[at..end], rule, &mut fields, &mut balance, &mut area)?;
+        let line = run_line(
+            rt,
+            &data[at..end],
+            rule,
+            &mut fields,
+            &mut balance,
+            &mut area,
+        )?;
         all = all.and(counted(line));
         if data.len() <= end {
             return Ok(all);
@@ -268,7 +286,12 @@ fn run_exact_rules<R: Files + Alloc + Print>(rt: &R, before: Tally) -> io::Resul
         .run(rt, "rule_loss", rules::LOSS)?
         .run(rt, "rule_contents", rules::CONTENT)?
         .run(rt, "rule_refusals", rules::REFUSAL)?
-        .run_again(rt, "rule_refusals", rules::WRITE, "rule_refusals, of the writers")?
+        .run_again(
+            rt,
+            "rule_refusals",
+            rules::WRITE,
+            "rule_refusals, of the writers",
+        )?
         .run(rt, "rule_bytes", rules::BYTES)?
         .run(rt, "rule_climate_writing", rules::CLIMATE)?
         .run(rt, "rule_block_writing", rules::BLOCK)?
@@ -306,7 +329,10 @@ fn main(rt: HostRuntime) -> io::Result<()> {
         .run(rt, "refusals", rules::REFUSAL)?
         .run_again(rt, "refusals", rules::WRITE, "refusals, of the writers")?
         .run(rt, "ky", rules::JOURNAL)?;
-    sheets.print(rt, "printed sheets and Ky, accepted or refused by the documents' rules")?;
+    sheets.print(
+        rt,
+        "printed sheets and Ky, accepted or refused by the documents' rules",
+    )?;
     let exact = run_exact_seasons(rt, run_exact_rules(rt, none)?)?;
     exact.print(rt, "document 01's rules by a separate reading")?;
     printed.and(bounded).and(sheets).and(exact).print(rt, "all")

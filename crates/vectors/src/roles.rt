@@ -131,7 +131,7 @@ pub fn number_of(
     fields: [u32; 41],
     numbers: &[u32],
 ) -> u64 {
-    let n = trial::count(get(numbers, 7) as isize, climate);
-    let m = trial::count(get(numbers, 8) as isize, area);
+    let n = trial::count(get(numbers, 7) as u64, climate);
+    let m = trial::count(get(numbers, 8) as u64, area);
     answered(&climate[..n], block, &area[..m], fields, numbers)
 }

@@ -237,8 +237,8 @@ fn of_bytes(numbers: &[u32], a: u32, b: u32) -> u64 {
     let mut block = [0u8; 52];
     text::lay_bytes(numbers, 6, &mut climate);
     text::lay_bytes(numbers, trial::saturating_add(6, a as u64), &mut block);
-    let n = trial::count(a as isize, &climate);
-    let m = trial::count(b as isize, &block);
+    let n = trial::count(a as u64, &climate);
+    let m = trial::count(b as u64, &block);
     sheets::refusal(&climate[..n], &block[..m])
 }
 

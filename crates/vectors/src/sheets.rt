@@ -44,19 +44,15 @@ fn put_fields(bytes: &mut [u8], from: usize, fields: &[u32], first: usize, end: 
     at
 }
 
-fn signed(k: usize) -> isize {
-    if k < 1000000 { k as isize } else { 0 }
-}
-
 // Writes the climate sheet of a line's numbers, judged by nobody: also one that reading must refuse, which the product's
 // writer does not make; how many bytes it has.
-pub fn write_climate(fields: [u32; 41], bytes: &mut [u8]) -> isize {
-    signed(put_fields(bytes, 0, &fields, 9, 33))
+pub fn write_climate(fields: [u32; 41], bytes: &mut [u8]) -> u64 {
+    put_fields(bytes, 0, &fields, 9, 33) as u64
 }
 
 // The same of the block sheet.
-pub fn write_block(fields: [u32; 41], bytes: &mut [u8]) -> isize {
-    signed(put_block(&fields, bytes, 0))
+pub fn write_block(fields: [u32; 41], bytes: &mut [u8]) -> u64 {
+    put_block(&fields, bytes, 0) as u64
 }
 
 // Writes the block sheet of the first forty-one numbers to a place and those behind it; the place after it. A February

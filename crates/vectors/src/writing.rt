@@ -59,14 +59,14 @@ fn block_in(role: u32, fields: [u32; 41], buffer: &mut [u8], which: u32) -> u64 
 // The same of the climate's in a buffer of so many bytes EE, at most 73.
 pub fn climate_in_room(role: u32, fields: [u32; 41], room: u32, which: u32) -> u64 {
     let mut buffer = [0xEEu8; 73];
-    let n = trial::count(room as isize, &buffer);
+    let n = trial::count(room as u64, &buffer);
     climate_in(role, fields, &mut buffer[..n], which)
 }
 
 // The same of the block's, at most 52.
 pub fn block_in_room(role: u32, fields: [u32; 41], room: u32, which: u32) -> u64 {
     let mut buffer = [0xEEu8; 52];
-    let n = trial::count(room as isize, &buffer);
+    let n = trial::count(room as u64, &buffer);
     block_in(role, fields, &mut buffer[..n], which)
 }
 

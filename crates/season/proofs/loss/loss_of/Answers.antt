@@ -16,4 +16,4 @@ pub returns-then-loss-gt10000 : goal.returns-then-loss-gt10000
 returns-then-loss-gt10000 c = sym (some_need c.args.ky c.args.need c.args.used (omega (arith, c.if-need-eq0.false)) ∙ omega (arith, c.if-loss-gt10000.true))
 
 pub returns : goal.returns
-returns c = sym (some_need c.args.ky c.args.need c.args.used (omega (arith, c.if-need-eq0.false)) ∙ omega (arith, c.if-loss-gt10000.false))
+returns c = sym (some_need c.args.ky c.args.need c.args.used (omega (arith, c.if-need-eq0.false)) ∙ omega arith)
