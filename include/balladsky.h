@@ -1,6 +1,6 @@
 /* Balladsky: the block water controller of documents 01 and 02, eleven calls on bytes. C99 and C++.
  *
- * Link target/staticlib/libexports.a (made by `rt staticlib exports`, x86-64 Linux). It needs memcpy and memset, and
+ * Link target/staticlib/libexports.a (made by `tools/archive`, x86-64 Linux). It needs memcpy and memset, and
  * nothing else. Every call is proved to meet a contract that fixes each number it writes; crates/exports/src/lib.rt
  * states them.
  *
