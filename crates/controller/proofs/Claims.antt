@@ -158,10 +158,10 @@ module _ (role : ℕ) where
 
       open_refuses_by : verdict_of (openings.numbers_of (opened_by role climate block area).opening) ≡ first_of Accepted (on_lines (look_lines role) climate block (open_lines area))
       open_refuses_by =
-          let verdictIn : Opened → Verdict = λ r. verdict_of (openings.numbers_of r.opening) in
-          let so = sheets_verdict climate block verdictIn unopened (λ s. opened s area) (open_lines area) numbers_refused (λ s o. open_verdict s area) in
-          look_verdict verdictIn unopened numbers_refused (cond (may_mend role) at_sheets (without_stores at_sheets)) (on_lines [] climate block (open_lines area))
-          (either_way (λ r. verdictIn r ≡ first_of Accepted (on_lines [] climate block (open_lines area))) at_sheets (may_mend role) so so) role
+          let verdict_in : Opened → Verdict = λ r. verdict_of (openings.numbers_of r.opening) in
+          let so = sheets_verdict climate block verdict_in unopened (λ s. opened s area) (open_lines area) numbers_refused (λ s o. open_verdict s area) in
+          look_verdict verdict_in unopened numbers_refused (cond (may_mend role) at_sheets (without_stores at_sheets)) (on_lines [] climate block (open_lines area))
+          (either_way (λ r. verdict_in r ≡ first_of Accepted (on_lines [] climate block (open_lines area))) at_sheets (may_mend role) so so) role
 
       open_no_stores_by : (number value : ℕ) → (opened_by role climate block area).opening ≡ found.Refused number value → opened_by role climate block area ≡ unopened number value
       open_no_stores_by number value =

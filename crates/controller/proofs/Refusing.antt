@@ -68,23 +68,23 @@ module _ (climate block : List ℕ) where
       first_append Accepted (pair_lines climate block) (lines (sheets_of climate block).season)
       ∙ ap (λ (v : Verdict). first_of v (lines (sheets_of climate block).season)) (sym ((sheets.claims).refuses_first climate block))
 
-  pub sheets_verdict : {A : Type 0} (verdictIn : A → Verdict) (refuse : ℕ → ℕ → A) (reply : Season → A) (lines : Season → List Line)
-      → ((number value : ℕ) → 1 ≤ number → verdictIn (refuse number value) ≡ Refused number value)
-      → ((s : Season) → AcceptedSeason s → verdictIn (reply s) ≡ first_of Accepted (lines s))
-      → verdictIn (on_sheets refuse reply climate block) ≡ first_of Accepted (on_lines [] climate block lines)
-  sheets_verdict verdictIn refuse reply lines no-sheets of-season =
-      on_sheets_lem refuse reply climate block (λ a. verdictIn a ≡ first_of Accepted (on_lines [] climate block lines))
+  pub sheets_verdict : {A : Type 0} (verdict_in : A → Verdict) (refuse : ℕ → ℕ → A) (reply : Season → A) (lines : Season → List Line)
+      → ((number value : ℕ) → 1 ≤ number → verdict_in (refuse number value) ≡ Refused number value)
+      → ((s : Season) → AcceptedSeason s → verdict_in (reply s) ≡ first_of Accepted (lines s))
+      → verdict_in (on_sheets refuse reply climate block) ≡ first_of Accepted (on_lines [] climate block lines)
+  sheets_verdict verdict_in refuse reply lines no-sheets of-season =
+      on_sheets_lem refuse reply climate block (λ a. verdict_in a ≡ first_of Accepted (on_lines [] climate block lines))
       (λ number value e. no-sheets number value ((sheets.claims).refused_number climate block number value e).0
       ∙ sym (on_lines_lem lines ∙ rw e (first_refused_lem number value (lines (sheets_of climate block).season))))
       (λ s e q o. of-season s o ∙ sym (on_lines_lem lines ∙ rw (e, q)))
 
   -- With the role's in front.
-  pub looks_verdict : (role : ℕ) {A : Type 0} (verdictIn : A → Verdict) (refuse : ℕ → ℕ → A) (reply : Season → A) (lines : Season → List Line)
-      → ((number value : ℕ) → 1 ≤ number → verdictIn (refuse number value) ≡ Refused number value)
-      → ((s : Season) → AcceptedSeason s → verdictIn (reply s) ≡ first_of Accepted (lines s))
-      → verdictIn (by_role (look_lines role) refuse (on_sheets refuse reply climate block)) ≡ first_of Accepted (on_lines (look_lines role) climate block lines)
-  looks_verdict role verdictIn refuse reply lines no-sheets of-season =
-      look_verdict verdictIn refuse no-sheets (on_sheets refuse reply climate block) (on_lines [] climate block lines) (sheets_verdict verdictIn refuse reply lines no-sheets of-season) role
+  pub looks_verdict : (role : ℕ) {A : Type 0} (verdict_in : A → Verdict) (refuse : ℕ → ℕ → A) (reply : Season → A) (lines : Season → List Line)
+      → ((number value : ℕ) → 1 ≤ number → verdict_in (refuse number value) ≡ Refused number value)
+      → ((s : Season) → AcceptedSeason s → verdict_in (reply s) ≡ first_of Accepted (lines s))
+      → verdict_in (by_role (look_lines role) refuse (on_sheets refuse reply climate block)) ≡ first_of Accepted (on_lines (look_lines role) climate block lines)
+  looks_verdict role verdict_in refuse reply lines no-sheets of-season =
+      look_verdict verdict_in refuse no-sheets (on_sheets refuse reply climate block) (on_lines [] climate block lines) (sheets_verdict verdict_in refuse reply lines no-sheets of-season) role
 
 -- A refusal's number and value are the verdict of an answer that begins with them.
 pub numbers_refused : (number value : ℕ) → 1 ≤ number → verdict_of (number ∷ value ∷ []) ≡ Refused number value
@@ -94,12 +94,12 @@ numbers_refused number value h = (verdicts.claims).verdict_of_numbers (Refused n
 abbrev Numbered : ℕ → ℕ → Type 0
 Numbered number value = 1 ≤ number
 
-by_lines : (verdictUnless : Verdict → Verdict) → verdictUnless Accepted ≡ Accepted
-    → ((number value : ℕ) → 1 ≤ number → verdictUnless (Refused number value) ≡ Refused number value)
-    → (lines : List Line) → Lines Numbered lines → verdictUnless (first_of Accepted lines) ≡ first_of Accepted lines
-by_lines verdictUnless accepts refuses lines h = go (first_of Accepted lines) (first_refusal Numbered Accepted lines tt h)
+by_lines : (verdict_unless : Verdict → Verdict) → verdict_unless Accepted ≡ Accepted
+    → ((number value : ℕ) → 1 ≤ number → verdict_unless (Refused number value) ≡ Refused number value)
+    → (lines : List Line) → Lines Numbered lines → verdict_unless (first_of Accepted lines) ≡ first_of Accepted lines
+by_lines verdict_unless accepts refuses lines h = go (first_of Accepted lines) (first_refusal Numbered Accepted lines tt h)
   where
-    go : (v : Verdict) → Refusal Numbered v → verdictUnless v ≡ v
+    go : (v : Verdict) → Refusal Numbered v → verdict_unless v ≡ v
     go Accepted r = accepts
     go (Refused number value) r = refuses number value r
 
@@ -139,14 +139,14 @@ area_lines size o = (ltb 8192 size, 8, 0) ∷ ((damaged o).0, 9, (damaged o).1) 
 
 module _ (s : Season) (area : List ℕ) where
   -- A call whose verdict is 8, 9, then what `lines` give of the opening.
-  pub by_opening : (verdictIn : Opening → Verdict) (lines : Opening → List Line)
-      → ((number place : ℕ) → 1 ≤ number → verdictIn (found.Refused number place) ≡ Refused number place)
-      → ((l : Ledger) → verdictIn (found.Clean l) ≡ first_of Accepted (lines (found.Clean l)))
-      → ((l : Ledger) → verdictIn (found.Torn l l.place) ≡ first_of Accepted (lines (found.Torn l l.place)))
-      → verdictIn (opening s area) ≡ first_of Accepted (area_lines (length area) (opening s area) ++ lines (opening s area))
+  pub by_opening : (verdict_in : Opening → Verdict) (lines : Opening → List Line)
+      → ((number place : ℕ) → 1 ≤ number → verdict_in (found.Refused number place) ≡ Refused number place)
+      → ((l : Ledger) → verdict_in (found.Clean l) ≡ first_of Accepted (lines (found.Clean l)))
+      → ((l : Ledger) → verdict_in (found.Torn l l.place) ≡ first_of Accepted (lines (found.Torn l l.place)))
+      → verdict_in (opening s area) ≡ first_of Accepted (area_lines (length area) (opening s area) ++ lines (opening s area))
   unfolding or_refused
-  by_opening verdictIn lines refuses clean torn =
-      opening_by s area (λ o. verdictIn o ≡ first_of Accepted (area_lines (length area) o ++ lines o))
+  by_opening verdict_in lines refuses clean torn =
+      opening_by s area (λ o. verdict_in o ≡ first_of Accepted (area_lines (length area) o ++ lines o))
       (λ h. refuses 8 0 (omega arith) ∙ sym (rw (lt-ltb 8192 (length area) h) (first_refused_lem 8 0 (lines (found.Refused 8 0)))))
       (λ h l i. clean l ∙ sym (rw (le-ltb 8192 (length area) h)))
       (λ h l i. torn l ∙ sym (rw (le-ltb 8192 (length area) h)))

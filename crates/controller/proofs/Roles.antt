@@ -84,20 +84,20 @@ module _ {A : Type 0} (P : A → Type 0) (refuse : ℕ → ℕ → A) (reply : A
   enter_by refused answered =
       by_role_lem (enter_lines role) refuse reply P (λ number value e. let n = enter_number role number value e in rw n.1 (refused number n.0)) (λ e. answered)
 
-module _ {A : Type 0} (verdictIn : A → Verdict) (refuse : ℕ → ℕ → A) (no_answer : (number value : ℕ) → 1 ≤ number → verdictIn (refuse number value) ≡ Refused number value)
-    (reply : A) (lines : List Line) (as-lines : verdictIn reply ≡ first_of Accepted lines) where
+module _ {A : Type 0} (verdict_in : A → Verdict) (refuse : ℕ → ℕ → A) (no_answer : (number value : ℕ) → 1 ≤ number → verdict_in (refuse number value) ≡ Refused number value)
+    (reply : A) (lines : List Line) (as-lines : verdict_in reply ≡ first_of Accepted lines) where
   role_verdict : (first : List Line) → ((number value : ℕ) → first_of Accepted first ≡ Refused number value → 1 ≤ number)
-      → verdictIn (by_role first refuse reply) ≡ first_of Accepted (first ++ lines)
+      → verdict_in (by_role first refuse reply) ≡ first_of Accepted (first ++ lines)
   role_verdict first numbered =
-      by_role_lem first refuse reply (λ a. verdictIn a ≡ first_of Accepted (first ++ lines))
+      by_role_lem first refuse reply (λ a. verdict_in a ≡ first_of Accepted (first ++ lines))
       (λ number value h. no_answer number value (numbered number value h)
       ∙ sym (first_append Accepted first lines ∙ ap (λ (v : Verdict). first_of v lines) h ∙ first_refused_lem number value lines))
       (λ h. as-lines ∙ sym (first_append Accepted first lines ∙ ap (λ (v : Verdict). first_of v lines) h))
 
-  pub look_verdict : (role : ℕ) → verdictIn (by_role (look_lines role) refuse reply) ≡ first_of Accepted (look_lines role ++ lines)
+  pub look_verdict : (role : ℕ) → verdict_in (by_role (look_lines role) refuse reply) ≡ first_of Accepted (look_lines role ++ lines)
   look_verdict role = role_verdict (look_lines role) (λ number value h. let n = (look_number role number value h).0 in omega arith)
 
-  pub enter_verdict : (role : ℕ) → verdictIn (by_role (enter_lines role) refuse reply) ≡ first_of Accepted (enter_lines role ++ lines)
+  pub enter_verdict : (role : ℕ) → verdict_in (by_role (enter_lines role) refuse reply) ≡ first_of Accepted (enter_lines role ++ lines)
   enter_verdict role = role_verdict (enter_lines role) (λ number value h. let n = (enter_number role number value h).0 in omega arith)
 
 -- ---- an opening with its stores, or without them
