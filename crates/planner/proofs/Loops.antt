@@ -1,5 +1,5 @@
 -- What the program's loop keeps: the pass over a season's days, and the depths drawn so far.
-use mathlib.Core.Path.{◌≡◌, ◌∙◌, ap}
+use mathlib.Core.Path.{◌≡◌, sym, ◌∙◌, ap}
 use mathlib.Core.Logic.{◌⊎◌, inl, inr}
 use mathlib.Core.List.{List}
 use Prim.Native.Nat.{ℕ, suc, ◌+◌, ◌-◌, ◌%◌, ◌≤◌, ◌<◌}
@@ -53,6 +53,9 @@ Ended today ready n l m l' =
     ((ready < n.depletion) × (n.filled ≤ ready) × (l' ≡ set l (n.turn - today) n.depth) × (m ≡ filled_now n))
     ⊎ ((n.depletion ≤ ready) × (l' ≡ l) × (m ≡ n))
 
+length_zeros : {n : ℕ} {z : List ℕ} → z ≡ replicate n 0 → length z ≡ n
+length_zeros {n} e = rw e (length-replicate n 0)
+
 module _ {s : Season} {today waiting : ℕ} {used : List ℕ} {limit D last : ℕ} {t : SeasonDay} {before week d : ℕ} {k : Track} {l : List ℕ} (w : Drawing s today waiting used limit D last t before week d k l) where
   sized : length l ≡ days_left s today
   sized =
@@ -68,6 +71,9 @@ module _ {s : Season} {today waiting : ℕ} {used : List ℕ} {limit D last : �
 
   pub drawing_from : today ≤ d
   drawing_from = omega (arith, w.passing.size)
+
+  pub drawing_length : {z : List ℕ} → z ≡ replicate (days_left s today) 0 → length l ≡ length z
+  drawing_length e = sized ∙ sym (length_zeros e)
 
 -- Day t is passed: it is the last, or the day after follows.
 module _ {s : Season} {today waiting : ℕ} {used : List ℕ} {limit D last : ℕ} {t : SeasonDay} {before week : ℕ} {k : Track} {l : List ℕ}
