@@ -85,12 +85,12 @@ impl Tally {
     }
 
     // Runs a group and prints its count; the count of all so far.
-    fn run<R: Files + Alloc + Print>(self, rt: &R, path: &str, rule: u32) -> io::Result<Tally> {
+    fn run<R: Files + Print>(self, rt: &R, path: &str, rule: u32) -> io::Result<Tally> {
         self.run_again(rt, path, rule, path)
     }
 
     // The same under another name, for a group that is asked a second question.
-    fn run_again<R: Files + Alloc + Print>(
+    fn run_again<R: Files + Print>(
         self,
         rt: &R,
         path: &str,
@@ -228,13 +228,15 @@ fn run_text(rt: &impl Print, data: &[u8], rule: u32) -> io::Result<Tally> {
 }
 
 // The figures of a file, by a rule.
-fn read_group<R: Files + Alloc + Print>(rt: &R, path: &str, rule: u32) -> io::Result<Tally> {
-    let data = fs::read(rt, path)?;
-    run_text(rt, &data, rule)
+fn read_group<R: Files + Print>(rt: &R, path: &str, rule: u32) -> io::Result<Tally> {
+    let mut file = fs::open(rt, path)?;
+    let mut data = [0u8; 65536];
+    let n = trial::read_full(&mut file, &mut data)?;
+    run_text(rt, &data[..n], rule)
 }
 
 // Printed figures: the rules on numbers alone.
-fn run_rules<R: Files + Alloc + Print>(rt: &R, before: Tally) -> io::Result<Tally> {
+fn run_rules<R: Files + Print>(rt: &R, before: Tally) -> io::Result<Tally> {
     let all = before
         .run(rt, "effective_rain", rules::RAIN)?
         .run(rt, "gross", rules::GROSS)?
@@ -245,7 +247,7 @@ fn run_rules<R: Files + Alloc + Print>(rt: &R, before: Tally) -> io::Result<Tall
 }
 
 // Printed figures: a season's days and their numbers.
-fn run_days<R: Files + Alloc + Print>(rt: &R, before: Tally) -> io::Result<Tally> {
+fn run_days<R: Files + Print>(rt: &R, before: Tally) -> io::Result<Tally> {
     let all = before
         .run(rt, "lengths", rules::LENGTH)?
         .run(rt, "dates", rules::DATE)?
@@ -259,7 +261,7 @@ fn run_days<R: Files + Alloc + Print>(rt: &R, before: Tally) -> io::Result<Tally
 }
 
 // Printed figures: decade tables and intervals between waterings.
-fn run_seasons<R: Files + Alloc + Print>(rt: &R, before: Tally) -> io::Result<Tally> {
+fn run_seasons<R: Files + Print>(rt: &R, before: Tally) -> io::Result<Tally> {
     let all = before
         .run(rt, "decade_rows", rules::ROWS)?
         .run(rt, "decade_cells", rules::CELL)?
@@ -269,7 +271,7 @@ fn run_seasons<R: Files + Alloc + Print>(rt: &R, before: Tally) -> io::Result<Ta
 }
 
 // Printed figures whose bounds were set from the deviations seen.
-fn run_bounded<R: Files + Alloc + Print>(rt: &R, before: Tally) -> io::Result<Tally> {
+fn run_bounded<R: Files + Print>(rt: &R, before: Tally) -> io::Result<Tally> {
     let all = before
         .run(rt, "decade_sums", rules::SUM)?
         .run(rt, "daily_balances", rules::BALANCE)?;
@@ -277,7 +279,7 @@ fn run_bounded<R: Files + Alloc + Print>(rt: &R, before: Tally) -> io::Result<Ta
 }
 
 // Document 01's rules by a separate reading of them: what no source prints.
-fn run_exact_rules<R: Files + Alloc + Print>(rt: &R, before: Tally) -> io::Result<Tally> {
+fn run_exact_rules<R: Files + Print>(rt: &R, before: Tally) -> io::Result<Tally> {
     let all = before
         .run(rt, "rule_rain", rules::RAIN)?
         .run(rt, "rule_ready", rules::READY)?
@@ -305,7 +307,7 @@ fn run_exact_rules<R: Files + Alloc + Print>(rt: &R, before: Tally) -> io::Resul
 }
 
 // Document 01's rules by a separate reading of them: whole seasons.
-fn run_exact_seasons<R: Files + Alloc + Print>(rt: &R, before: Tally) -> io::Result<Tally> {
+fn run_exact_seasons<R: Files + Print>(rt: &R, before: Tally) -> io::Result<Tally> {
     let all = before
         .run(rt, "season_climates", rules::CLIMATE)?
         .run(rt, "season_blocks", rules::BLOCK)?
