@@ -21,6 +21,11 @@ unfolding irrigated
 counts_none zero h = refl
 counts_none (suc x) h = absurd (omega arith)
 
+pub counts_few : (x : ℕ) → irrigated (x ∷ []) ≤ 1
+unfolding irrigated
+counts_few zero = omega arith
+counts_few (suc x) = omega arith
+
 pub added_none : (us : List ℕ) → add_used us [] ≡ us
 unfolding add_used
 added_none [] = refl
@@ -86,6 +91,9 @@ module _ {us xs now : List ℕ} {i : ℕ} (w : Adding us xs now i) where
 
   pub adding_dry : i < length xs → get_or xs i 0 ≤ 0 → Adding us xs now (i + 1)
   adding_dry h l = adding_next h (rw (counts_none (get_or xs i 0) l) (omega (arith, adding_old))) (sym (set-get_or now i 0))
+
+  pub adding_valves : {next : List ℕ} {v : ℕ} → i < length xs → v ≡ irrigated (get_or xs i 0 ∷ []) → next ≡ set now i (get_or now i 0 + v) → Adding us xs next (i + 1)
+  adding_valves h e s = adding_next h (omega (arith, e, adding_old)) s
 
   pub adding_end : length xs ≤ i → now ≡ add_used us xs
   adding_end h = w.is ∙ ap (add_used us) (take_all i xs h)

@@ -2,6 +2,7 @@
 ghost use Rattle.std.specs.Prelude.{◌≡◌, [], ◌∷◌, ◌≤◌, ◌<◌, length, take, replicate};
 ghost use Rattle.std.proofs.lemmas.List.Edits.{sets};
 ghost use Rattle.season.specs.Sheet.{Valid, DayOf, longest_season};
+ghost use Rattle.planner.specs.Choices.{irrigated};
 ghost use Rattle.planner.specs.Outlook.{days_left};
 ghost use Rattle.planner.specs.Answer.{answer_to};
 ghost use Rattle.planner.specs.Bank.{given};
@@ -15,7 +16,14 @@ use planner::Planned;
 use season::Season;
 use sheet::Climate;
 
-// Counts one valve more on each day that a plan waters.
+// How many valves a depth takes.
+fn valves_of(depth: u32) -> u32
+    ensures { result ≡ irrigated (depth ∷ []) }
+{
+    if 0 < depth { 1 } else { 0 }
+}
+
+// Counts one valve more on each day that a plan waters. (Every count is stored, so that the loop goes four days at a time.)
 fn add_used(used: &mut [u32], depths: &[u32])
     requires counts { Counts used.old }
     requires depths_len_bound { length depths.now ≤ longest_season }
@@ -23,11 +31,8 @@ fn add_used(used: &mut [u32], depths: &[u32])
 {
     let mut i: usize = 0;
     while i < depths.len() {
-        let day = i;
+        used[i] += valves_of(depths[i]);
         i += 1;
-        if 0 < depths[day] {
-            used[day] += 1;
-        }
     }
 }
 
