@@ -1,12 +1,13 @@
 -- Laws of the first refusal that applies.
-use mathlib.Core.Path.{◌≡◌, refl, sym, ◌∙◌}
+use mathlib.Core.Path.{◌≡◌, refl, sym, ap, ◌∙◌}
 use Prim.Native.Nat.{ℕ}
 use mathlib.Core.Bool.{Bool, true, false}
 use mathlib.Core.List.{List, [], ◌∷◌, ◌++◌}
 use native.Mathlib.Omega.{arith}
-use Rattle.verdict.specs.declared.Verdict.{Verdict}
-use Rattle.verdict.specs.declared.Verdict.TheVariants.{Accepted, Refused}
-use Rattle.verdict.specs.Refusals.{or_refused, first_of}
+use Rattle.verdict.specs.Refusals.{Verdict, Accepted, Refused, or_refused, first_of, number_of, verdict_in, refused_by}
+use Rattle.std.specs.Prelude.{Result, Ok, Err, IsErrAnd}
+use Rattle.verdict.specs.declared.Reason.{Reason}
+use Rattle.verdict.specs.declared.Refusal as code
 
 -- A refusal stays, whatever follows.
 pub first_refused_lem : (n v : ℕ) (rs : List (Bool × ℕ × ℕ)) → first_of (Refused n v) rs ≡ Refused n v
@@ -63,3 +64,25 @@ or_refusal P (Refused n w) test number value a h = a
 pub first_refusal : (P : ℕ → ℕ → Type 0) (v : Verdict) (rs : List (Bool × ℕ × ℕ)) → Refusal P v → Lines P rs → Refusal P (first_of v rs)
 first_refusal P v [] a h = a
 first_refusal P v (r ∷ rs) a h = first_refusal P (or_refused v r.0 r.1 r.2) rs (or_refusal P v r.0 r.1 r.2 a h.0) h.1
+
+-- `or_refused` of the code is the definition's, of what a result says.
+pub verdict_refused : (r : Result (Unit {0}) code.Refusal) (test : Bool) (why : Reason) (value : ℕ)
+    → verdict_in (refused_by r test why value) ≡ or_refused (verdict_in r) test (number_of why) value
+unfolding or_refused refused_by
+verdict_refused (Ok u) true why value = refl
+verdict_refused (Ok u) false why value = refl
+verdict_refused (Err r) test why value = refl
+
+pub said : (r q : Result (Unit {0}) code.Refusal) (test : Bool) (why : Reason) (value : ℕ) → r ≡ refused_by q test why value
+    → verdict_in r ≡ or_refused (verdict_in q) test (number_of why) value
+said r q test why value e = ap verdict_in e ∙ verdict_refused q test why value
+
+-- What is not refused passed the test.
+pub passed : (r : Result (Unit {0}) code.Refusal) (u : Unit {0}) (test : Bool) (why : Reason) (value : ℕ) → r ≡ refused_by (Ok tt) test why value → r ≡ Ok u
+    → test ≡ false
+passed r u test why value e o = (or_accepted Accepted test (number_of why) value (sym (verdict_refused (Ok tt) test why value) ∙ (sym (ap verdict_in e) ∙ ap verdict_in o))).1
+
+-- What a `?` hands on is the refusal that it got, in the result of the whole.
+pub handed_on : {A : Type 0} (r : Result A code.Refusal) (why : code.Refusal) → IsErrAnd r (λ e. e ≡ why) → r ≡ Err why
+handed_on (Ok x) why h = absurd h
+handed_on (Err e) why h = ap Err h
