@@ -15,9 +15,7 @@ use lib.Seq.{drop-cons}
 use lib.Arith.{digits_lt}
 use lib.Pow.{pow-add, shl_exact}
 use lib.Bits.{bit_and, bit_or, and_mask, or_shifted_r}
-use Rattle.leb128.specs.declared.Number.{Number}
-use Rattle.leb128.specs.declared.Number.TheVariants.{Whole, Short, Bad}
-use Rattle.leb128.specs.Forms.{below, joined_of, decode_from, decode}
+use Rattle.leb128.specs.Forms.{Number, Whole, Short, Bad, below, joined_of, decode_from, decode}
 use Rattle.leb128.proofs.Steps.{lt_or_le}
 use Rattle.leb128.proofs.Laws.{from_end, from_zero, from_on, from_past}
 

@@ -14,10 +14,8 @@ use lib.ListN.{length, take, drop, get_or, length-take, length-drop}
 use lib.Seq.{get_or-drop, take-append-le}
 use lib.Pow.{pow_mono, pow-add, shr_lt}
 use lib.Count.{count_leading_zeros, leading_top}
-use Rattle.leb128.specs.declared.Number.{Number}
-use Rattle.leb128.specs.declared.Number.TheVariants.{Whole, Short, Bad}
+use Rattle.leb128.specs.Forms.{Number, Whole, Short, Bad, below, decode_from, decode}
 use Rattle.leb128.specs.Groups.{group_count, encode}
-use Rattle.leb128.specs.Forms.{below, decode_from, decode}
 use Rattle.leb128.specs.Claims.{Bytes}
 use Rattle.leb128.proofs.Steps.{lt_or_le, group_ind, count_last, count_more, encode_last, encode_more}
 

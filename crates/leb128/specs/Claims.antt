@@ -1,9 +1,8 @@
 -- What is proved of this crate's definitions, for every count of groups. `claims`, in proofs/Claims.antt, has a proof of each field.
 use Rattle.std.specs.Prelude.{ℕ, suc, ◌+◌, ◌-◌, ◌/◌, ◌^◌, ◌≤◌, ◌<◌, ◌≡◌, List, ◌++◌, map, length, take, get_or}
 use Rattle.std.specs.Int.Count.{count_leading_zeros}
-use Rattle.leb128.specs.declared.Number.TheVariants.{Whole, Short}
+use Rattle.leb128.specs.Forms.{Whole, Short, decode}
 use Rattle.leb128.specs.Groups.{group_count, encode}
-use Rattle.leb128.specs.Forms.{decode}
 use Rattle.leb128.specs.Cases.{edges}
 
 -- Each number of a list is a byte; 0 stands past its end.

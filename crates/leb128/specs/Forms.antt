@@ -1,9 +1,17 @@
 -- Document 01, 'The season sheet' and refusals 1 and 2: what stands at the start of some bytes. Places are counted from 0.
-use Rattle.std.specs.Prelude.{ℕ, ◌+◌, ◌*◌, ◌-◌, ◌%◌, List, [], ◌∷◌, ◌++◌, true, false, ◌&&◌, ltb, eqb, replicate}
-use Rattle.leb128.specs.declared.Number.{Number}
-use Rattle.leb128.specs.declared.Number.TheVariants.{Whole, Short, Bad}
+use Rattle.std.specs.Prelude.{ℕ, ◌+◌, ◌*◌, ◌-◌, ◌%◌, List, [], ◌∷◌, ◌++◌, true, false, ◌&&◌, ltb, eqb, replicate, Result, Ok, Err}
+use Rattle.leb128.specs.declared.Decoded.{Decoded}
+use Rattle.leb128.specs.declared.NoNumber.{NoNumber}
+use Rattle.leb128.specs.declared.NoNumber.TheVariants as none
 use Rattle.leb128.specs.declared.Groups.{Groups}
 use Rattle.leb128.specs.Groups.{group_count, encode}
+
+-- What stands at the start of some bytes: a number and how many bytes it takes; they end inside the number; or the place of the first byte that no
+-- number has there.
+pub data Number : Type 0 where
+  Whole : ℕ → ℕ → Number
+  Short : Number
+  Bad : ℕ → Number
 
 -- A group put below what the bytes behind it give.
 unfoldable pub below : ℕ → Number → Number
@@ -37,3 +45,9 @@ numbers_of (Bad p) = 2 ∷ p ∷ []
 -- The bytes of n with zeros behind them, five in all, and how many they are.
 unfoldable pub groups_of : ℕ → Groups
 groups_of n = record { bytes = encode n ++ replicate (5 - group_count n) 0; count = group_count n }
+
+-- What a result of the code says.
+abbrev pub number_in : Result Decoded NoNumber → Number
+number_in (Ok d) = Whole d.number d.length
+number_in (Err none.Short) = Short
+number_in (Err (none.Bad p)) = Bad p

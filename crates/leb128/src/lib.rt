@@ -4,18 +4,23 @@
 
 ghost use Rattle.std.specs.Prelude.{◌≡◌, [], ◌∷◌, drop};
 ghost use Rattle.leb128.specs.Groups.{group_count};
-ghost use Rattle.leb128.specs.Forms.{groups_of, joined_of, decode};
+ghost use Rattle.leb128.specs.Forms.{groups_of, joined_of, decode, number_in};
 
-// What stands at the start of a slice: a number and how many bytes it takes; the slice ends inside
-// the number; or the place of the first byte that no number has there.
-#[derive(Clone, Copy)]
-pub enum Number {
-    Whole(u32, usize),
+// The number at the start of a slice, and how many bytes it takes.
+#[derive(Clone, Copy, Debug, PartialEq, Eq)]
+pub struct Decoded {
+    pub number: u32,
+    pub length: usize,
+}
+
+// Why there is none: the slice ends inside the number, or the place of the first byte that no number has there.
+#[derive(Clone, Copy, Debug, PartialEq, Eq)]
+pub enum NoNumber {
     Short,
     Bad(usize),
 }
 
-// The bytes of a number, of which there are `count`, with zeros behind them.
+// The bytes of a number, of which there are `count`, with zeros behind them. (At most five, by value: there is no heap.)
 #[derive(Clone, Copy)]
 pub struct Groups {
     pub bytes: [u8; 5],
@@ -33,7 +38,7 @@ pub fn group_count(n: u32) -> u32
     }
 }
 
-// The groups of `n`, split off by masks and shifts.
+// The groups of `n`, split off by masks and shifts. (The loop ends by what is left of n: a `for` over the places would test that too.)
 pub fn split(n: u32) -> Groups
     ensures { result ≡ groups_of n }
 {
@@ -58,64 +63,61 @@ pub fn joined(a: u8, b: u8, c: u8) -> u32
 }
 
 // The number at the start of three bytes. It has three groups at most, so each count is written out.
-fn read_three(a: u8, b: u8, c: u8) -> Number
-    ensures { result ≡ decode (a ∷ b ∷ c ∷ []) }
+fn read_three(a: u8, b: u8, c: u8) -> Result<Decoded, NoNumber>
+    ensures { number_in result ≡ decode (a ∷ b ∷ c ∷ []) }
 {
     if a < 0x80 {
-        return Number::Whole(a as u32, 1);
+        return Ok(Decoded {
+            number: a as u32,
+            length: 1,
+        });
     }
     if (0 < b) & (b < 0x80) {
-        return Number::Whole(joined(a, b, 0), 2);
+        return Ok(Decoded {
+            number: joined(a, b, 0),
+            length: 2,
+        });
     }
     if b == 0 {
-        return Number::Bad(1);
+        return Err(NoNumber::Bad(1));
     }
     if (0 < c) & (c < 0x80) {
-        return Number::Whole(joined(a, b, c), 3);
+        return Ok(Decoded {
+            number: joined(a, b, c),
+            length: 3,
+        });
     }
-    Number::Bad(2)
+    Err(NoNumber::Bad(2))
 }
 
 // The number at the start of `s`.
-pub fn read(s: &[u8]) -> Number
-    ensures { result ≡ decode s.now }
+pub fn read(s: &[u8]) -> Result<Decoded, NoNumber>
+    ensures { number_in result ≡ decode s.now }
 {
-    let length = s.len();
-    if length == 0 {
-        return Number::Short;
+    match s {
+        [] => Err(NoNumber::Short),
+        [first, ..] if *first < 0x80 => Ok(Decoded {
+            number: *first as u32,
+            length: 1,
+        }),
+        [_] => Err(NoNumber::Short),
+        [first, second, ..] if (0 < *second) & (*second < 0x80) => Ok(Decoded {
+            number: joined(*first, *second, 0),
+            length: 2,
+        }),
+        [_, second, ..] if *second == 0 => Err(NoNumber::Bad(1)),
+        [_, _] => Err(NoNumber::Short),
+        [first, second, third, ..] => read_three(*first, *second, *third),
     }
-    let first = s[0];
-    if first < 0x80 {
-        return Number::Whole(first as u32, 1);
-    }
-    if length == 1 {
-        return Number::Short;
-    }
-    let second = s[1];
-    if (0 < second) & (second < 0x80) {
-        return Number::Whole(joined(first, second, 0), 2);
-    }
-    if second == 0 {
-        return Number::Bad(1);
-    }
-    if length == 2 {
-        return Number::Short;
-    }
-    read_three(first, second, s[2])
 }
 
-// The number at a place of `s`. With three bytes there the length is looked at once; past the end there is none.
-pub fn read_at(s: &[u8], at: usize) -> Number
-    ensures { result ≡ decode (drop at s.now) }
+// The number at a place of `s`; past the end there is none. Where three bytes stand there, no length is looked at again between them.
+pub fn read_at(s: &[u8], at: usize) -> Result<Decoded, NoNumber>
+    ensures { number_in result ≡ decode (drop at s.now) }
 {
-    let length = s.len();
-    if 3 <= length {
-        if at <= length - 3 {
-            return read_three(s[at], s[at + 1], s[at + 2]);
-        }
+    match s.get(at..) {
+        Some([a, b, c, ..]) => read_three(*a, *b, *c),
+        Some(rest) => read(rest),
+        None => Err(NoNumber::Short),
     }
-    if length < at {
-        return Number::Short;
-    }
-    read(&s[at..])
 }

@@ -1,7 +1,7 @@
 -- `leb128::read_three` meets its contract: the groups so far are joined below the next (proofs/Joins.antt).
 use Prim.Native.Nat.{ℕ, ◌+◌, ◌*◌, ◌%◌}
 use mathlib.Core.Path.{sym, ap, ◌∙◌}
-use Rattle.leb128.specs.declared.Number.TheVariants.{Whole}
+use Rattle.leb128.specs.Forms.{Whole}
 use mathlib.Core.List.{[], ◌∷◌}
 use native.Mathlib.Omega.{arith}
 use Rattle.leb128.proofs.Laws.{decode_one}
