@@ -1,4 +1,5 @@
 // A season day, and from day to day.
+// (A struct of season and day with `Valid` and `OnDay` as ghost fields was tried and proved: the plan is as fast, a journal of closings 6 to 11% slower.)
 ghost use Rattle.std.specs.Prelude.{◌≡◌, ◌+◌, ◌≤◌};
 ghost use Rattle.season.specs.Calendar.{Proper};
 ghost use Rattle.season.specs.Sheet.{Ranged, Valid, DayOf};
@@ -6,7 +7,7 @@ ghost use Rattle.season.specs.Carried.{growth_per_day, on_date, day_of, needs_af
 
 use crate::dates::{date_after, date_of, month_days};
 use crate::day::{effective_rain, slope_of};
-use crate::numbers::{min, quotient, raised, reciprocal_of, saturating_sub, usual_reciprocal_of};
+use crate::numbers::{quotient, raised, reciprocal_of, usual_reciprocal_of};
 use crate::{Date, Season, SeasonDay};
 
 // What the roots grow, times the reciprocal of G.
@@ -14,7 +15,7 @@ fn growth_per_day(s: Season) -> u64
     requires { Ranged s }
     ensures { result ≡ growth_per_day s }
 {
-    saturating_sub(s.full, s.sowing) as u64 * reciprocal_of(s.initial + s.development)
+    s.full.saturating_sub(s.sowing) as u64 * reciprocal_of(s.initial + s.development)
 }
 
 // A season day on a date. What the roots grow comes along. The months' numbers are copied first: an index into them does not then hold the
@@ -38,7 +39,7 @@ fn on_date(s: Season, number: u32, date: Date, growth: u64) -> SeasonDay
         day: date.day,
         length,
         effective,
-        left: min(length - date.day, slope.left),
+        left: (length - date.day).min(slope.left),
         top: eto * slope.top + 50 * slope.bottom,
         rise: eto as i32 * slope.rise,
         reciprocal: usual_reciprocal_of(100 * slope.bottom),
@@ -77,16 +78,10 @@ pub fn further_on(s: Season, t: SeasonDay, days: u32) -> SeasonDay
 {
     SeasonDay {
         number: t.number + days,
-        month: t.month,
         day: t.day + days,
-        length: t.length,
-        effective: t.effective,
         left: t.left - days,
         top: raised(t.top, t.rise, days),
-        rise: t.rise,
-        reciprocal: t.reciprocal,
-        rain_per_day: t.rain_per_day,
-        growth_per_day: t.growth_per_day,
+        ..t
     }
 }
 
@@ -113,12 +108,10 @@ pub fn need_after(s: Season, t: SeasonDay, days: u32) -> u32
         return days * quotient(t.top, t.reciprocal);
     }
     let mut top = t.top;
-    let mut sum: u32 = 0;
-    let mut i: u32 = 0;
-    while i < days {
+    let mut sum = 0;
+    for _ in 0..days {
         top = raised(top, t.rise, 1);
         sum += quotient(top, t.reciprocal);
-        i += 1;
     }
     sum
 }

@@ -27,7 +27,7 @@ fn month_after(month: u32) -> u32
     if month < 12 { month + 1 } else { 1 }
 }
 
-// The date of a season day: a walk over the months.
+// The date of a season day: a walk over the months, until the day falls in one.
 pub fn date_of(s: Season, day: u32) -> Date
     requires valid { Valid s }
     requires day_of { DayOf s day }

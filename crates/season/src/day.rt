@@ -5,7 +5,7 @@ ghost use Rattle.season.specs.Rules.{effective_rain, rain_to};
 ghost use Rattle.season.specs.Carried.{constant, sloping, slope_of, OnDay};
 ghost use Rattle.season.specs.Day.{stage_of, kc_of, crop_need, root_on, total_on, ready_on};
 
-use crate::numbers::{quotient, raised, saturating_sub};
+use crate::numbers::{quotient, raised};
 use crate::{Kc, Season, SeasonDay, Slope, Stage, season_days};
 
 // Day k of a stage of L days with one coefficient.
@@ -97,7 +97,7 @@ pub fn first_total(s: Season) -> u32
     requires { Ranged s }
     ensures { result ≡ total_on s 1 }
 {
-    s.water * (s.sowing + saturating_sub(s.full, s.sowing) / (s.initial + s.development))
+    s.water * (s.sowing + s.full.saturating_sub(s.sowing) / (s.initial + s.development))
 }
 
 // Root depth Z on a season day: roots are full grown on day G.
@@ -107,7 +107,7 @@ pub fn root_depth(s: Season, t: SeasonDay) -> u32
     ensures { result ≡ root_on s t.number }
 {
     if s.initial + s.development <= t.number {
-        return s.sowing + saturating_sub(s.full, s.sowing);
+        return s.sowing + s.full.saturating_sub(s.sowing);
     }
     s.sowing + quotient(t.number, t.growth_per_day)
 }

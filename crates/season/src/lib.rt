@@ -22,7 +22,6 @@ pub use day::{
 };
 pub use depths::gross_of;
 pub use loss::loss_of;
-pub use numbers::{min, saturating_sub};
 
 // The days of the longest season that refusal 5 lets pass.
 pub const LONGEST_SEASON: usize = 275;
@@ -30,7 +29,7 @@ pub const LONGEST_SEASON: usize = 275;
 // The numbers of a sheet, by name: fields 1 and 2 the start, 3 to 6 the stages, 7 to 9 the crop coefficients, 10 to 21 ETo and
 // 22 to 33 dependable rain by month, 34 available water A, 35 and 36 root depth Z0 and Zm, 37 depletion fraction p, 38 efficiency E,
 // 39 opening depletion, 40 turns, 41 the days of February.
-#[derive(Clone, Copy)]
+#[derive(Clone, Copy, Debug, PartialEq, Eq)]
 pub struct Season {
     pub month: u32,
     pub first: u32,
@@ -54,7 +53,7 @@ pub struct Season {
 }
 
 // A calendar day: the month and the day of the month, each from 1.
-#[derive(Clone, Copy)]
+#[derive(Clone, Copy, Debug, PartialEq, Eq)]
 pub struct Date {
     pub month: u32,
     pub day: u32,
@@ -73,7 +72,7 @@ struct Slope {
 // date, and its month's length and effective rain. Crop need is `top` / (100 × L), where half a point is in `top`; the `left` days after
 // this one are of its month and its stage, and there `top` is `rise` more each day. Then the reciprocal of 100 × L; effective rain
 // times the reciprocal of the month's length, and what the roots grow times the reciprocal of G.
-#[derive(Clone, Copy)]
+#[derive(Clone, Copy, Debug, PartialEq, Eq)]
 pub struct SeasonDay {
     pub number: u32,
     pub month: u32,
@@ -89,14 +88,14 @@ pub struct SeasonDay {
 }
 
 // A crop coefficient in hundredths, top / bottom, not rounded.
-#[derive(Clone, Copy)]
+#[derive(Clone, Copy, Debug, PartialEq, Eq)]
 pub struct Kc {
     pub top: u32,
     pub bottom: u32,
 }
 
 // The stages of a season, in their order.
-#[derive(Clone, Copy)]
+#[derive(Clone, Copy, Debug, PartialEq, Eq)]
 pub enum Stage {
     Initial,
     Development,
@@ -105,7 +104,7 @@ pub enum Stage {
 }
 
 // What closing a day makes: the crop need, crop use, percolation and the new depletion.
-#[derive(Clone, Copy)]
+#[derive(Clone, Copy, Debug, PartialEq, Eq)]
 pub struct DayClose {
     pub need: u32,
     pub used: u32,
@@ -114,11 +113,11 @@ pub struct DayClose {
 }
 
 // A depth as the crop gets it.
-#[derive(Clone, Copy)]
+#[derive(Clone, Copy, Debug, PartialEq, Eq)]
 pub struct Net(pub u32);
 
 // A depth as it is let in at the gate. Only `gross_of` makes one.
-#[derive(Clone, Copy)]
+#[derive(Clone, Copy, Debug, PartialEq, Eq)]
 pub struct Gross(u32);
 
 // n.

@@ -1,19 +1,6 @@
-// Numbers: a difference that stops at 0, the lesser of two, a quotient by a reciprocal, and a top that rises by a difference.
-ghost use Rattle.std.specs.Prelude.{◌≡◌, ◌-◌, ◌*◌, ◌<◌, min};
+// Numbers: a quotient by a reciprocal, and a top that rises by a difference.
+ghost use Rattle.std.specs.Prelude.{◌≡◌, ◌*◌, ◌<◌};
 ghost use Rattle.season.specs.Carried.{reciprocal, scaled, raised, Raising};
-
-// a - b, or 0 where b is larger.
-pub fn saturating_sub(a: u32, b: u32) -> u32
-    ensures { result ≡ a - b }
-{
-    if b <= a { a - b } else { 0 }
-}
-
-pub fn min(a: u32, b: u32) -> u32
-    ensures { result ≡ min a b }
-{
-    if a <= b { a } else { b }
-}
 
 // 2^44.
 const SCALE: u64 = 17592186044416;

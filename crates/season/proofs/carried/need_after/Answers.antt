@@ -18,26 +18,20 @@ overflow_mul-result c = record { fits = rw c.quotient.ensures (omega (arith, pro
 pub returns-then-t-eq0 : goal.returns-then-t-eq0
 returns-then-t-eq0 c = rw c.quotient.ensures (needs_constant c.requires.valid c.requires.on_day (no_rise c.requires.valid c.requires.on_day c.if-t-eq0.true) c.args.days c.requires.days_le_left)
 
-pub loop-i-init : goal.loop-i-init
-loop-i-init c = summing_start c.args.t c.args.days
+pub loop-init : goal.loop-init
+loop-init c = summing_start c.args.t c.args.days
 
 pub raised-top-requires : goal.raised-top-requires
-raised-top-requires c = rw (rise_back c.requires.valid c.requires.on_day) (summing_raising c.requires.valid c.requires.on_day c.loop-i.invariant c.requires.days_le_left c.loop-i-test.true)
+raised-top-requires c = rw (rise_back c.requires.valid c.requires.on_day) (summing_raising c.requires.valid c.requires.on_day c.loop.invariant c.requires.days_le_left c.loop-test.true)
 
 pub quotient-sum-requires : goal.quotient-sum-requires
-quotient-sum-requires c = rw (c.raised-top.ensures, rise_back c.requires.valid c.requires.on_day) (summing_fits c.requires.valid c.requires.on_day c.loop-i.invariant c.requires.days_le_left c.loop-i-test.true)
+quotient-sum-requires c = rw (c.raised-top.ensures, rise_back c.requires.valid c.requires.on_day) (summing_fits c.requires.valid c.requires.on_day c.loop.invariant c.requires.days_le_left c.loop-test.true)
 
 pub overflow_add-sum : goal.overflow_add-sum
-overflow_add-sum c = record { fits = rw (c.quotient-sum.ensures, c.raised-top.ensures, rise_back c.requires.valid c.requires.on_day) (omega (arith, summing_small c.requires.valid c.requires.on_day c.loop-i.invariant c.requires.days_le_left c.loop-i-test.true)) }
+overflow_add-sum c = record { fits = rw (c.quotient-sum.ensures, c.raised-top.ensures, rise_back c.requires.valid c.requires.on_day) (omega (arith, summing_small c.requires.valid c.requires.on_day c.loop.invariant c.requires.days_le_left c.loop-test.true)) }
 
-pub overflow_add-i : goal.overflow_add-i
-overflow_add-i c = record { fits = omega (arith, c.loop-i-test.true, c.requires.days_le_left, left_few c.requires.valid c.requires.on_day) }
-
-pub loop-i-smaller : goal.loop-i-smaller
-loop-i-smaller c = omega (arith, c.loop-i.invariant.few, c.loop-i-test.true)
-
-pub loop-i-preserved : goal.loop-i-preserved
-loop-i-preserved c = summing_more c.requires.valid c.requires.on_day c.loop-i.invariant c.requires.days_le_left c.loop-i-test.true (c.raised-top.ensures ∙ ap (λ (z : ℤ). raised c.loop-i.top z 1) (rise_back c.requires.valid c.requires.on_day)) (rw c.quotient-sum.ensures)
+pub loop-preserved : goal.loop-preserved
+loop-preserved c = summing_more c.requires.valid c.requires.on_day c.loop.invariant c.requires.days_le_left c.loop-test.true (c.raised-top.ensures ∙ ap (λ (z : ℤ). raised c.loop.top z 1) (rise_back c.requires.valid c.requires.on_day)) (rw c.quotient-sum.ensures)
 
 pub returns : goal.returns
-returns c = let all : c.loop-i.i ≡ c.args.days = omega (arith, c.loop-i.invariant.few, c.loop-i-test.false) in c.loop-i.invariant.total ∙ ap (summed c.args.t) all ∙ summed_is c.requires.valid c.requires.on_day c.args.days c.requires.days_le_left
+returns c = let all : c.loop.counter ≡ c.args.days = omega (arith, c.loop.invariant.few, c.loop-test.false) in c.loop.invariant.total ∙ ap (summed c.args.t) all ∙ summed_is c.requires.valid c.requires.on_day c.args.days c.requires.days_le_left
