@@ -4,7 +4,7 @@ use mathlib.Core.Path.{◌≡◌, refl}
 use mathlib.Core.List.{List, []}
 use native.Mathlib.Omega.{arith}
 use lib.ListN.{length, take, drop}
-use Rattle.verdict.specs.declared.Verdict.TheVariants.{Accepted, Refused}
+use Rattle.verdict.specs.Refusals.{Accepted, Refused}
 use Rattle.verdict.proofs.First.{first_refusal}
 use Rattle.fields.specs.Fields.{limits}
 use Rattle.fields.specs.Refusals.{field_lines, fields_verdict, climate_lines, block_lines, climate_verdict, block_verdict}

@@ -10,10 +10,8 @@ use lib.Dec.{ltb}
 use lib.ListN.{length, take, drop, get_or, replicate}
 use Rattle.season.specs.Sheet.{Ranged, season_days, longest_season}
 use Rattle.season.specs.Day.{total_on, AcceptedSeason}
-use Rattle.verdict.specs.declared.Verdict.{Verdict}
+use Rattle.verdict.specs.Refusals.{Verdict, Accepted, Refused, or_refused, first_of}
 use Rattle.season.specs.declared.Season.{Season}
-use Rattle.verdict.specs.declared.Verdict.TheVariants.{Accepted, Refused}
-use Rattle.verdict.specs.Refusals.{or_refused, first_of}
 use Rattle.verdict.proofs.First.{Lines, first_holds, first_fails, accepted_fails}
 use Rattle.fields.specs.Fields.{february_of, limits, season_of, merged, block_fields}
 use Rattle.fields.specs.Refusals.{field_at_fault, season_lines, field_lines, fields_verdict, climate_at_fault, block_at_fault, climate_lines, block_lines, climate_verdict, block_verdict}
@@ -31,9 +29,9 @@ no_fault f e =
     first_fails (ltb 0 (field_at_fault f)) 4 (field_at_fault f) (season_lines (season_of f)) (le-ltb 0 (field_at_fault f) (omega arith))
 
 -- The same of a block's numbers: the chain of refusals 5 to 7, as the code has it, after no field was at fault.
-pub block_refused : (b : List ℕ) (fault : ℕ) → fault ≡ block_at_fault b → 0 < fault → Refused 4 fault ≡ block_verdict b
+pub block_refused : (b : List ℕ) (fault : ℕ) → 0 < fault → fault ≡ block_at_fault b → Refused 4 fault ≡ block_verdict b
 unfolding block_verdict
-block_refused b fault e h =
+block_refused b fault h e =
     ap (Refused 4) e ∙ sym (first_holds (ltb 0 (block_at_fault b)) 4 (block_at_fault b) (season_lines (season_of (block_fields b))) (lt-ltb 0 (block_at_fault b) (omega (arith, e))))
 
 block_no_fault : (b : List ℕ) → block_at_fault b ≡ 0 → block_verdict b ≡ first_of Accepted (season_lines (season_of (block_fields b)))
@@ -88,7 +86,7 @@ pub climate_clear : (c : List ℕ) → climate_verdict c ≡ Accepted → climat
 unfolding climate_verdict
 climate_clear c e = omega (arith, ltb-false 0 (climate_at_fault c) (accepted_fails (ltb 0 (climate_at_fault c)) 4 (climate_at_fault c) [] e).0)
 
-climate_accepted : (c : List ℕ) → climate_at_fault c ≡ 0 → climate_verdict c ≡ Accepted
+pub climate_accepted : (c : List ℕ) → climate_at_fault c ≡ 0 → climate_verdict c ≡ Accepted
 unfolding climate_verdict
 climate_accepted c e = first_fails (ltb 0 (climate_at_fault c)) 4 (climate_at_fault c) [] (le-ltb 0 (climate_at_fault c) (omega arith))
 
@@ -96,6 +94,11 @@ pub block_clear : (b : List ℕ) → block_verdict b ≡ Accepted → block_at_f
 unfolding block_verdict
 block_clear b e =
     omega (arith, ltb-false 0 (block_at_fault b) (accepted_fails (ltb 0 (block_at_fault b)) 4 (block_at_fault b) (season_lines (season_of (block_fields b))) e).0)
+
+pub climate_refused : (c : List ℕ) (field : ℕ) → 0 < field → field ≡ climate_at_fault c → Refused 4 field ≡ climate_verdict c
+unfolding climate_verdict
+climate_refused c field h e =
+    ap (Refused 4) e ∙ sym (first_holds (ltb 0 (climate_at_fault c)) 4 (climate_at_fault c) [] (lt-ltb 0 (climate_at_fault c) (omega (arith, e))))
 
 -- An accepted block's season is at most so long, and a seventeenth number is 29.
 pub block_days : (b : List ℕ) → block_verdict b ≡ Accepted → season_days (season_of (block_fields b)) ≤ longest_season

@@ -1,7 +1,7 @@
 -- What is proved of this crate's definitions. `claims`, in proofs/Claims.antt, has a proof of each field.
 use Rattle.std.specs.Prelude.{ℕ, ◌≤◌, ◌<◌, ◌≡◌, ◌↔◌, List, length, get_or}
 use Rattle.season.specs.Day.{AcceptedSeason}
-use Rattle.verdict.specs.declared.Verdict.TheVariants.{Accepted, Refused}
+use Rattle.verdict.specs.Refusals.{Accepted, Refused}
 use Rattle.fields.specs.Fields.{february_of, limits, season_of, merged, block_fields}
 use Rattle.fields.specs.Refusals.{season_lines, fields_verdict, climate_verdict, block_verdict}
 

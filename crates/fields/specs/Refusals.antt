@@ -4,9 +4,7 @@ use Rattle.std.specs.Prelude.{ℕ, Bool, cond, List, [], ◌∷◌, ltb, get_or,
 use Rattle.season.specs.declared.Season.{Season}
 use Rattle.season.specs.Sheet.{season_days, longest_season}
 use Rattle.season.specs.Day.{total_on}
-use Rattle.verdict.specs.declared.Verdict.{Verdict}
-use Rattle.verdict.specs.declared.Verdict.TheVariants.{Accepted}
-use Rattle.verdict.specs.Refusals.{first_of}
+use Rattle.verdict.specs.Refusals.{Verdict, Accepted, first_of}
 use Rattle.fields.specs.Fields.{february_of, limits, lowest_outside, season_of, block_fields}
 
 -- The lowest field that is outside its range; 0 where none is.

@@ -2,13 +2,14 @@
 // sixteen numbers, or seventeen with the days of February (document 02, T-06, T-08).
 #![tactic(auto)]
 
-ghost use Rattle.std.specs.Prelude.{◌≤◌, ◌≡◌, ◌++◌, length, take, drop};
+ghost use Rattle.std.specs.Prelude.{◌≤◌, ◌<◌, ◌≡◌, ◌++◌, length, take, drop, MatchOption};
 ghost use Rattle.fields.specs.Fields.{february_of, limits, outside, season_of, merged, block_field, block_fields};
 ghost use Rattle.fields.specs.Refusals.{climate_at_fault, block_at_fault, climate_verdict, block_verdict};
+ghost use Rattle.verdict.specs.Refusals.{verdict_in};
 ghost use Rattle.season.specs.Calendar.{month_days};
 
 use season::Season;
-use verdict::Verdict;
+use verdict::{OrRefused, Reason, Refusal, refuse_if};
 
 // The lowest and the highest number of a field.
 #[derive(Clone, Copy)]
@@ -100,24 +101,21 @@ fn block_limits(february: u32, month: u32) -> [Limit; 17]
 fn is_outside(limit: Limit, x: u32) -> bool
     ensures { result ≡ outside limit x }
 {
-    x < limit.0 || limit.1 < x
+    !(limit.0..=limit.1).contains(&x)
 }
 
-// A climate's lowest field outside its limits, by its number; 0 where none is. (Of a known count, in both loops: the limits are then no table in memory.)
-fn climate_fault(c: &[u32]) -> usize
+// A climate's lowest field outside its limits, by its number. (Of a known count, in both loops: the limits are then no table in memory.)
+fn climate_fault(c: &[u32]) -> Option<usize>
     requires { length c.now ≡ 24 }
-    ensures { result ≡ climate_at_fault c.now }
+    ensures { MatchOption result (climate_at_fault c.now ≡ 0) (λ field. (0 < field) × (field ≡ climate_at_fault c.now)) }
 {
     let by_place = CLIMATE;
-    let mut k: usize = 0;
-    while k < 24 {
-        let limit = by_place[k];
-        if is_outside(limit, c[k]) {
-            return k + 10;
+    for k in 0..24 {
+        if is_outside(by_place[k], c[k]) {
+            return Some(k + 10);
         }
-        k += 1;
     }
-    0
+    None
 }
 
 // The number of a block's field, by its place.
@@ -129,24 +127,20 @@ fn block_field(place: usize) -> usize
 }
 
 // A block's lowest field outside its limits, likewise.
-fn block_fault(block: &[u32]) -> usize
+fn block_fault(block: &[u32]) -> Option<usize>
     requires { (16 ≤ length block.now) × (length block.now ≤ 17) }
-    ensures { result ≡ block_at_fault block.now }
+    ensures { MatchOption result (block_at_fault block.now ≡ 0) (λ field. (0 < field) × (field ≡ block_at_fault block.now)) }
 {
     let by_place = block_limits(february_of(block), block[0]);
-    let mut place: usize = 0;
-    while place < 16 {
-        let limit = by_place[place];
-        if is_outside(limit, block[place]) {
-            return block_field(place);
+    for place in 0..16 {
+        if is_outside(by_place[place], block[place]) {
+            return Some(block_field(place));
         }
-        place += 1;
     }
-    if block.len() <= 16 {
-        return 0;
+    if 16 < block.len() && is_outside(by_place[16], block[16]) {
+        return Some(41);
     }
-    let limit = by_place[16];
-    if is_outside(limit, block[16]) { 41 } else { 0 }
+    None
 }
 
 // ---- the fields by name
@@ -182,29 +176,35 @@ pub fn season_of(eto: [u32; 12], rain: [u32; 12], block: &[u32]) -> Season
 // ---- refusals 4 to 7
 
 // A climate's twenty-four numbers: refusal 4.
-pub fn judge_climate(c: &[u32]) -> Verdict
+pub fn judge_climate(c: &[u32]) -> Result<(), Refusal>
     requires { length c.now ≡ 24 }
-    ensures { result ≡ climate_verdict c.now }
+    ensures { verdict_in result ≡ climate_verdict c.now }
 {
-    let fault = climate_fault(c);
-    Verdict::Accepted.or_refused(0 < fault, 4, fault)
+    match climate_fault(c) {
+        Some(field) => Err(Refusal {
+            reason: Reason::FieldOutside,
+            value: field,
+        }),
+        None => Ok(()),
+    }
 }
 
 // A block's sixteen or seventeen numbers: the first of refusals 4 to 7 that applies. No climate is looked at.
-pub fn judge_block(block: &[u32]) -> Verdict
+pub fn judge_block(block: &[u32]) -> Result<(), Refusal>
     requires { (16 ≤ length block.now) × (length block.now ≤ 17) }
-    ensures { result ≡ block_verdict block.now }
+    ensures { verdict_in result ≡ block_verdict block.now }
 {
-    let fault = block_fault(block);
-    if 0 < fault {
-        return Verdict::Refused(4, fault);
+    if let Some(field) = block_fault(block) {
+        return Err(Refusal {
+            reason: Reason::FieldOutside,
+            value: field,
+        });
     }
     let s = season_of([0; 12], [0; 12], block);
     let long = season::LONGEST_SEASON < season::season_days(s) as usize;
     let shrinking = s.full < s.sowing;
     let above_total = season::first_total(s) < s.opening;
-    Verdict::Accepted
-        .or_refused(long, 5, 0)
-        .or_refused(shrinking, 6, 0)
-        .or_refused(above_total, 7, 0)
+    refuse_if(long, Reason::SeasonTooLong, 0)
+        .or_refused(shrinking, Reason::RootsShrink, 0)
+        .or_refused(above_total, Reason::OpeningAboveTotal, 0)
 }

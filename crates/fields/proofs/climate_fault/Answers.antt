@@ -20,10 +20,10 @@ pub bounds-c-k : goal.bounds-c-k
 bounds-c-k c = omega (arith, c.loop-k-test.true, c.requires)
 
 pub returns-then-is_outside : goal.returns-then-is_outside
-returns-then-is_outside c = sym (search_found c.loop-k.invariant (0, 0) (omega (arith, c.loop-k-test.true, c.requires)) (sym c.is_outside.ensures ∙ c.if-is_outside.true))
+returns-then-is_outside c = (omega arith, sym (search_found c.loop-k.invariant (0, 0) (omega (arith, c.loop-k-test.true, c.requires)) (sym c.is_outside.ensures ∙ c.if-is_outside.true)))
 
 pub loop-k-preserved : goal.loop-k-preserved
 loop-k-preserved c = search_on c.loop-k.invariant (0, 0) (omega (arith, c.loop-k-test.true, c.requires)) (sym c.is_outside.ensures ∙ c.if-is_outside.false)
 
 pub returns : goal.returns
-returns c = sym (search_none c.loop-k.invariant (omega (arith, c.loop-k-test.false, c.requires)))
+returns c = search_none c.loop-k.invariant (omega (arith, c.loop-k-test.false, c.requires))

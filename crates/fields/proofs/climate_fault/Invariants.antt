@@ -1,5 +1,4 @@
 -- The loop is `Searched` of proofs/Lowest.antt.
-use Prim.Native.Nat.{◌-◌}
 use lib.ListN.{take, drop}
 use Rattle.fields.specs.Fields.{limits}
 use Rattle.fields.proofs.Lowest.{Searched}
@@ -7,6 +6,3 @@ use Rattle.fields.proofs.climate_fault.Given as goal
 
 abbrev pub invariant-loop-k : goal.invariant-loop-k
 invariant-loop-k l = Searched 10 (take 24 (drop 9 (limits 28 1))) l.c l.k
-
-abbrev pub decreases-loop-k : goal.decreases-loop-k
-decreases-loop-k l = 24 - l.k

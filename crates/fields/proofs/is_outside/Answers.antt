@@ -1,12 +1,9 @@
--- `fields::is_outside` meets its contract: the two tests are those of `outside`.
-use borrow.Author.Tests.{lt-ltb, le-ltb}
+-- The two tests of `contains` are those of `outside`.
+use Rattle.std.proofs.Common.{arith}
+use Rattle.std.proofs.lemmas.Grind.{common_steps}
 use Rattle.fields.specs.Fields.{outside}
 use Rattle.fields.proofs.is_outside.Goals as goal
 
-pub returns-then-x-limit : goal.returns-then-x-limit
+pub returns : goal.returns
 unfolding outside
-returns-then-x-limit c = simp (lt-ltb _ _ c.if-x-limit.true)
-
-pub returns-else-x-limit : goal.returns-else-x-limit
-unfolding outside
-returns-else-x-limit c = simp (le-ltb _ _ c.if-x-limit.false)
+returns c = grind (arith, common_steps)

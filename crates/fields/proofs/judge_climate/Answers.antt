@@ -1,12 +1,10 @@
--- One test.
-use mathlib.Core.Path.{ap, ◌∙◌}
-use lib.Dec.{ltb}
-use Rattle.verdict.specs.declared.Verdict.TheVariants.{Accepted}
-use Rattle.verdict.specs.Refusals.{or_refused}
-use Rattle.fields.specs.Refusals.{climate_verdict}
-use Prim.Native.Nat.{ℕ}
+-- Refusal 4, or none.
+use mathlib.Core.Path.{sym}
+use Rattle.fields.proofs.Verdicts.{climate_refused, climate_accepted}
 use Rattle.fields.proofs.judge_climate.Goals as goal
 
-pub returns : goal.returns
-unfolding climate_verdict
-returns c = c.or_refused.ensures ∙ ap (λ (fault : ℕ). or_refused Accepted (ltb 0 fault) 4 fault) c.climate_fault-fault.ensures
+pub returns-in-Some : goal.returns-in-Some
+returns-in-Some c = climate_refused c.args.c.now _ c.in-Some.ensures.0 c.in-Some.ensures.1
+
+pub returns-in-None : goal.returns-in-None
+returns-in-None c = sym (climate_accepted c.args.c.now c.in-None.ensures)
