@@ -9,8 +9,7 @@ use lib.Seq.{take_all}
 use Rattle.leb128.specs.Claims.{Bytes}
 use Rattle.season.specs.declared.Season.{Season}
 use Rattle.season.specs.Day.{AcceptedSeason}
-use Rattle.verdict.specs.declared.Verdict.{Verdict}
-use Rattle.verdict.specs.declared.Verdict.TheVariants.{Accepted, Refused}
+use Rattle.verdict.specs.Refusals.{Verdict, Accepted, Refused}
 use Rattle.verdict.proofs.First.{refused_accepted}
 use Rattle.fields.specs.Fields.{season_of, merged}
 use Rattle.fields.specs.Refusals.{climate_lines, block_lines, fields_verdict, climate_verdict, block_verdict}

@@ -13,19 +13,16 @@ use Rattle.leb128.proofs.Steps.{lt_or_le}
 use Rattle.leb128.specs.Claims.{Bytes}
 use Rattle.season.proofs.Stores.{at_start}
 use Rattle.season.specs.declared.Season.{Season}
-use Rattle.verdict.specs.declared.Verdict.{Verdict}
-use Rattle.verdict.specs.declared.Verdict.TheVariants as verdict
-use Rattle.verdict.specs.Refusals.{or_refused, first_of}
+use Rattle.verdict.specs.Refusals.{Verdict, or_refused, first_of}
+use Rattle.verdict.specs.Refusals as verdict
 use Rattle.verdict.proofs.First.{first_append, or_accepted}
 use Rattle.fields.specs.Fields.{february_of, season_of, merged, block_fields}
 use Rattle.fields.specs.Refusals.{climate_lines, block_lines, climate_verdict, block_verdict}
 use Rattle.fields.proofs.Merged.{gives, gives_take, february_short, february_long, season_by, season_of_both}
 use Rattle.fields.proofs.Verdicts.{seventeenth}
-use Rattle.sheet.specs.declared.Written.{Written}
-use Rattle.sheet.specs.declared.Written.TheVariants.{Made, Refused}
+use Rattle.sheet.specs.Writing.{Written, Made, Refused, sheet_fields, tablet_fields, write_lines, written_by, bytes_written, climate_written, fields_written, block_written, write_verdict, numbers_of, climate_fields, season_fields}
 use Rattle.sheet.specs.Numbers.{Numbers, numbers_are, written}
 use Rattle.sheet.specs.Sheets.{climate_numbers, block_numbers, climate_by, climate_of, block_of, sheets_of}
-use Rattle.sheet.specs.Writing.{sheet_fields, tablet_fields, write_lines, written_by, bytes_written, climate_written, fields_written, block_written, write_verdict, numbers_of, climate_fields, season_fields}
 use Rattle.sheet.proofs.Further.{Counts}
 use Rattle.sheet.proofs.Accepted.{is_climate, is_block, is_pair}
 use Rattle.sheet.proofs.ReadBack.{climate_numbers_lem, block_numbers_lem, climate_written_lem, block_written_lem}

@@ -8,8 +8,7 @@ use Rattle.leb128.specs.Claims.{Bytes}
 use Rattle.leb128.specs.Groups.{encode, over_groups, over_in}
 use Rattle.leb128.specs.Forms.{decode, decode_from, below}
 use Rattle.season.specs.SmallSheet as season
-use Rattle.verdict.specs.declared.Verdict.TheVariants.{Accepted}
-use Rattle.verdict.specs.Refusals.{or_refused}
+use Rattle.verdict.specs.Refusals.{Accepted, or_refused}
 use Rattle.fields.specs.Fields.{outside, lowest_outside, merged}
 use Rattle.fields.specs.Refusals.{climate_lines, block_lines}
 use Rattle.sheet.specs.Numbers.{Numbers, before, numbers, after, further, ended, numbers_in, written}

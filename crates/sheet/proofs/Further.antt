@@ -11,17 +11,15 @@ use borrow.Author.Tests.{lt-ltb, le-ltb, ltb-false}
 use lib.Dec.{ltb}
 use lib.ListN.{length, take, drop, length-append, drop_of_length-le}
 use lib.Seq.{take_all}
-use Rattle.leb128.specs.declared.Number.{Number}
-use Rattle.leb128.specs.declared.Number.TheVariants as number
-use Rattle.leb128.specs.declared.Number.TheVariants.{Short, Bad}
+use Rattle.leb128.specs.Forms.{Number, Short, Bad, decode, decode_from}
+use Rattle.leb128.specs.Forms as number
 use Rattle.leb128.specs.Claims.{Bytes}
 use Rattle.leb128.specs.Groups.{encode}
-use Rattle.leb128.specs.Forms.{decode, decode_from}
 use Rattle.leb128.proofs.Steps.{lt_or_le}
-use Rattle.verdict.specs.declared.Verdict.TheVariants.{Accepted}
+use Rattle.verdict.specs.Refusals.{Accepted}
 use Rattle.verdict.proofs.First.{refused_accepted}
 use Rattle.sheet.specs.Numbers.{Run, run, stop, before, numbers, numbers_are, none, after, further, ended, numbers_in, written}
-use Rattle.sheet.specs.declared.Reading.TheVariants.{Whole}
+use Rattle.std.specs.Prelude.{Ok}
 use Rattle.sheet.specs.Reading.{numbers_by}
 use Rattle.sheet.proofs.Runs.{numbers_whole, numbers_short, numbers_bad, SoFar, at_short, at_bad, so_far, reach_bad}
 use Rattle.sheet.proofs.Laws.{Reads, reads, Small, numbers_written, Ends, numbers_start, numbers_end}
@@ -145,7 +143,7 @@ module _ (least : ℕ) {s : List ℕ} {count : ℕ} {fields : List ℕ} {at k : 
   all : count ≡ least + extra
   all = omega arith
 
-  pub ends_at_least : k ≡ least → length s ≤ at → numbers_by least fields (Whole k) ≡ numbers_in least extra s
+  pub ends_at_least : k ≡ least → length s ≤ at → numbers_by least fields (Ok k) ≡ numbers_in least extra s
   ends_at_least e m = sym (least_read least extra s (take k fields) at (ap (λ (n : ℕ). numbers n 0 s) (sym e) ∙ so_far h) m)
 
   followed : (number place : ℕ) → ((n : ℕ) → k < n → numbers n 0 s ≡ stop number place) → (k ≡ least → at < length s) → Followed least s
@@ -199,8 +197,8 @@ module _ (least : ℕ) {s : List ℕ} {count : ℕ} {fields : List ℕ} {at k : 
   pub bytes_follow : count ≤ k → at < length s → none least 3 at ≡ numbers_in least extra s
   bytes_follow l m = sym (ended_more least s fields at m) ∙ read_all l
 
-  pub all_read : count ≤ k → length s ≤ at → numbers_by least fields (Whole k) ≡ numbers_in least extra s
-  all_read l m = ap (λ (vs : List ℕ). numbers_are vs Accepted) (take_all k fields (omega (arith, h.whole))) ∙ sym (ended_whole least s fields at m) ∙ read_all l
+  pub all_read : count ≤ k → length s ≤ at → numbers_by least fields (Ok (length fields)) ≡ numbers_in least extra s
+  all_read l m = ap (λ (vs : List ℕ). numbers_are vs Accepted) (take_all (length fields) fields (omega arith)) ∙ sym (ended_whole least s fields at m) ∙ read_all l
 
 -- Where the buffer has no room for more there are no extra numbers.
 pub no_extra : (n : ℕ) (s : List ℕ) → numbers_in n (n - n) s ≡ numbers_in n 0 s

@@ -5,10 +5,8 @@ use mathlib.Core.List.{List, [], ◌∷◌, ◌++◌, append_assoc}
 use native.Mathlib.Omega.{arith}
 use lib.ListN.{length, drop, get_or, length-drop, length-append, take-append-drop}
 use lib.Seq.{drop_at, drop-drop, drop-append-le, get_or-drop}
-use Rattle.leb128.specs.declared.Number.{Number}
-use Rattle.leb128.specs.declared.Number.TheVariants.{Whole, Short, Bad}
+use Rattle.leb128.specs.Forms.{Number, Whole, Short, Bad, decode}
 use Rattle.leb128.specs.Groups.{group_count, encode}
-use Rattle.leb128.specs.Forms.{decode}
 use Rattle.leb128.specs.Claims.{Bytes}
 use Rattle.leb128.proofs.Laws.{canonical, decode-encode, encode-length, count_pos, decode_more, few_bytes, short_few, reach_few}
 use Rattle.sheet.specs.Numbers.{Run, before, numbers, written}

@@ -5,7 +5,7 @@ use mathlib.Core.List.{List, [], ◌∷◌}
 use mathlib.Core.Logic.{inl, inr}
 use native.Mathlib.Omega.{arith}
 use lib.ListN.{length, take, drop, get_or, replicate}
-use Rattle.verdict.specs.declared.Verdict.TheVariants.{Accepted}
+use Rattle.verdict.specs.Refusals.{Accepted}
 use Rattle.leb128.specs.Claims.{Bytes}
 use Rattle.leb128.specs.Groups.{group_count, over_groups, over_in}
 use Rattle.leb128.proofs.Steps.{lt_or_le, count_last}

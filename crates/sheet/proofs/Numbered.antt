@@ -8,9 +8,7 @@ use native.Mathlib.Omega.{arith}
 use lib.Dec.{ltb}
 use lib.ListN.{length}
 use Rattle.season.specs.declared.Season.{Season}
-use Rattle.verdict.specs.declared.Verdict.{Verdict}
-use Rattle.verdict.specs.declared.Verdict.TheVariants.{Accepted, Refused}
-use Rattle.verdict.specs.Refusals.{first_of}
+use Rattle.verdict.specs.Refusals.{Verdict, Accepted, Refused, first_of}
 use Rattle.verdict.proofs.First.{Refusal, Lines, first_refusal}
 use Rattle.fields.specs.Refusals.{climate_lines, block_lines}
 use Rattle.fields.proofs.Verdicts.{climate_lines_lem, block_lines_lem}

@@ -6,8 +6,7 @@ use native.Mathlib.Omega.{arith}
 use lib.ListN.{length, take, drop, length-append, length-drop}
 use lib.Seq.{length-take-le}
 use Rattle.leb128.specs.Claims.{Bytes}
-use Rattle.verdict.specs.declared.Verdict.{Verdict}
-use Rattle.verdict.specs.declared.Verdict.TheVariants.{Accepted, Refused}
+use Rattle.verdict.specs.Refusals.{Verdict, Accepted, Refused}
 use Rattle.verdict.proofs.First.{refused_accepted}
 use Rattle.fields.specs.Fields.{season_of, merged}
 use Rattle.fields.specs.Refusals.{fields_verdict, climate_verdict, block_verdict}

@@ -7,12 +7,8 @@ use native.Mathlib.Omega.{arith}
 use lib.Dec.{ltb, eqb}
 use lib.ListN.{length, drop}
 use lib.Seq.{drop-drop}
-use Rattle.leb128.specs.declared.Number.{Number}
-use Rattle.leb128.specs.declared.Number.TheVariants.{Whole, Short, Bad}
-use Rattle.leb128.specs.Forms.{decode, decode_from, below}
-use Rattle.verdict.specs.declared.Verdict.{Verdict}
-use Rattle.verdict.specs.declared.Verdict.TheVariants.{Accepted, Refused}
-use Rattle.verdict.specs.Refusals.{or_refused, first_of}
+use Rattle.leb128.specs.Forms.{Number, Whole, Short, Bad, decode, decode_from, below}
+use Rattle.verdict.specs.Refusals.{Verdict, Accepted, Refused, or_refused, first_of}
 use Rattle.verdict.proofs.First.{first_append}
 use Rattle.sheet.specs.Numbers.{Run, run, stop, before, numbers, numbers_are, none, after, further, ended, numbers_in}
 use Rattle.fields.specs.Refusals.{climate_lines, block_lines}

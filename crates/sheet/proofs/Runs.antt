@@ -6,8 +6,7 @@ use native.Mathlib.Numerals.{add-one}
 use native.Mathlib.Omega.{arith}
 use lib.ListN.{length, take, drop, set, length-set, length-drop}
 use lib.Seq.{take-suc-set}
-use Rattle.leb128.specs.declared.Number.TheVariants.{Whole, Short, Bad}
-use Rattle.leb128.specs.Forms.{decode}
+use Rattle.leb128.specs.Forms.{Whole, Short, Bad, decode}
 use Rattle.leb128.proofs.Laws.{reach_le}
 use Rattle.sheet.specs.Numbers.{Run, before, numbers}
 

@@ -7,11 +7,12 @@ use native.Mathlib.Omega.{arith}
 use borrow.Author.Tests.{ltb-false, ne_eqb}
 use lib.Dec.{ltb, eqb}
 use lib.ListN.{length, drop}
-use Rattle.leb128.specs.declared.Number.{Number}
-use Rattle.leb128.specs.declared.Number.TheVariants.{Whole, Short, Bad}
-use Rattle.leb128.specs.Forms.{decode}
-use Rattle.verdict.specs.declared.Verdict.{Verdict}
-use Rattle.verdict.specs.declared.Verdict.TheVariants.{Accepted, Refused}
+use Rattle.leb128.specs.Forms.{Number, Whole, Short, Bad, decode}
+use denote.Enum.Bare.{sameb}
+use Rattle.verdict.specs.contracts.Reason.{the_type}
+use Rattle.verdict.specs.declared.Reason.{Reason}
+use Rattle.verdict.specs.declared.Reason.TheVariants as reason
+use Rattle.verdict.specs.Refusals.{Verdict, Accepted, Refused, number_of}
 use Rattle.sheet.specs.Numbers.{Run, run, stop, before, numbers, Numbers, numbers_are, none, further, ended, numbers_in}
 use Rattle.sheet.specs.Sheets.{climate_numbers, climate_of, block_of, end_in, climate_end}
 use Rattle.sheet.proofs.Runs.{numbers_whole, numbers_short, numbers_bad, reach_whole}
@@ -76,3 +77,29 @@ pub climate_end_is : (s : List ℕ) (v : Verdict) → (climate_numbers s).verdic
 unfolding climate_end numbers_in
 climate_end_is s v e =
     ap (end_of (length s)) (sym e) ∙ end_by s (numbers 24 0 s) (numbers_inside 24 0 s (omega arith)) (numbers_end 24 0 72 s (omega arith))
+
+-- A refusal is 3 as its reason is that bytes follow.
+pub is_three : (r : Reason) → sameb the_type r reason.BytesFollow ≡ eqb (number_of r) 3
+is_three reason.EndsEarly = refl
+is_three reason.BadNumber = refl
+is_three reason.BytesFollow = refl
+is_three reason.FieldOutside = refl
+is_three reason.SeasonTooLong = refl
+is_three reason.RootsShrink = refl
+is_three reason.OpeningAboveTotal = refl
+is_three reason.AreaTooLong = refl
+is_three reason.Damaged = refl
+is_three reason.Torn = refl
+is_three reason.AllDaysClosed = refl
+is_three reason.AmountOutside = refl
+is_three reason.DayOverfull = refl
+is_three reason.AreaFull = refl
+is_three reason.BufferShort = refl
+is_three reason.NoChoice = refl
+is_three reason.YieldFactorOutside = refl
+is_three reason.ProbeWrong = refl
+is_three reason.NoContent = refl
+is_three reason.RoleOutside = refl
+is_three reason.RoleLooksOnly = refl
+is_three reason.BankWrong = refl
+is_three reason.StartsDiffer = refl

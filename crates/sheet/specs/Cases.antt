@@ -6,8 +6,7 @@ use Rattle.verdict.specs.Refusals.{numbers_of}
 use Rattle.sheet.specs.Numbers.{written}
 use Rattle.sheet.specs.Sheets.{sheets_of}
 use Rattle.sheet.specs.Writing as writing
-use Rattle.sheet.specs.Writing.{climate_written, block_written}
-use Rattle.sheet.specs.declared.Written.{Written}
+use Rattle.sheet.specs.Writing.{climate_written, block_written, Written}
 
 -- The small pair, with turns 127.
 abbrev pub small_climate : List ℕ

@@ -3,17 +3,14 @@ use Rattle.std.specs.Prelude.{◌≡◌, ◌↔◌, List, [], ◌∷◌, ◌++�
 use Rattle.leb128.specs.Claims.{Bytes}
 use Rattle.season.specs.Day.{AcceptedSeason}
 use Rattle.season.specs.SmallSheet as season
-use Rattle.verdict.specs.declared.Verdict.TheVariants.{Accepted, Refused}
-use Rattle.verdict.specs.Refusals.{first_of}
+use Rattle.verdict.specs.Refusals.{Accepted, Refused, first_of}
 use Rattle.fields.specs.Fields.{season_of, merged}
 use Rattle.fields.specs.Refusals.{climate_lines, block_lines, climate_verdict, block_verdict}
-use Rattle.sheet.specs.declared.Written.{Written}
-use Rattle.sheet.specs.declared.Written.TheVariants as writer
-use Rattle.sheet.specs.declared.Written.TheVariants.{Made}
+use Rattle.sheet.specs.Writing.{Written, Made, sheet_fields, tablet_fields, write_lines, climate_written, block_written, write_verdict, numbers_of, climate_fields, season_fields}
+use Rattle.sheet.specs.Writing as writer
 use Rattle.sheet.specs.Numbers.{run, numbers, numbers_are, written}
 use Rattle.sheet.specs.Sheets.{climate_numbers, block_numbers, climate_by, climate_of, block_of, sheet_is, refusal, sheets_of}
 use Rattle.sheet.specs.Refusals.{climate_sheet_lines, block_sheet_lines, pair_lines}
-use Rattle.sheet.specs.Writing.{sheet_fields, tablet_fields, write_lines, climate_written, block_written, write_verdict, numbers_of, climate_fields, season_fields}
 use Rattle.sheet.specs.OneSheet.{sheet_of, one_sheet, climate_part, block_part}
 use Rattle.sheet.specs.Cases.{small_climate, small_block, leap_climate, leap_block, edges}
 

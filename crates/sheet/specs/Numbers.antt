@@ -1,11 +1,9 @@
 -- Document 01, 'The season sheet': numbers, one after another, and where bytes follow them one more (document 02, T-06); refusals 1 to 3. Of a sheet of
 -- any count: a climate's or a block's (T-08).
 use Rattle.std.specs.Prelude.{ℕ, zero, suc, ◌+◌, List, [], ◌∷◌, ◌++◌, true, false, cond, ltb, length, drop, replicate}
-use Rattle.leb128.specs.declared.Number.TheVariants.{Whole, Short, Bad}
-use Rattle.leb128.specs.Forms.{decode}
+use Rattle.leb128.specs.Forms.{Whole, Short, Bad, decode}
 use Rattle.leb128.specs.Groups.{encode}
-use Rattle.verdict.specs.declared.Verdict.{Verdict}
-use Rattle.verdict.specs.declared.Verdict.TheVariants.{Accepted, Refused}
+use Rattle.verdict.specs.Refusals.{Verdict, Accepted, Refused}
 
 -- A run of numbers: their values and the place after them, or a refusal.
 pub data Run : Type 0 where

@@ -1,13 +1,11 @@
 -- The one-sheet reader that the requests before T-08 had, its text as it was: forty or forty-one numbers in one sheet, by refusals 1 to 7. No call
 -- reads such a sheet now; the claims say that a pair gets the answers that its numbers got in one sheet.
 use Rattle.std.specs.Prelude.{ℕ, List, ◌++◌, take, drop}
-use Rattle.verdict.specs.declared.Verdict.{Verdict}
-use Rattle.verdict.specs.declared.Verdict.TheVariants.{Accepted, Refused}
+use Rattle.verdict.specs.Refusals.{Verdict, Accepted, Refused}
 use Rattle.fields.specs.Fields.{season_of, merged}
 use Rattle.fields.specs.Refusals.{fields_verdict}
-use Rattle.sheet.specs.declared.Sheet.{Sheet}
+use Rattle.sheet.specs.Sheets.{Sheet, climate_numbers, block_numbers, refusal, only_accepted}
 use Rattle.sheet.specs.Numbers.{Numbers, numbers_in, written}
-use Rattle.sheet.specs.Sheets.{climate_numbers, block_numbers, refusal, only_accepted}
 
 -- The forty or forty-one numbers of a sheet, or the first of refusals 1 to 3.
 abbrev pub numbers_read : List ℕ → Numbers

@@ -1,13 +1,11 @@
 -- Document 02, T-08: a climate sheet and a block sheet, by document 01's refusals 1 to 7.
-use Rattle.std.specs.Prelude.{ℕ, Bool, List, ◌++◌, length, take, drop, replicate}
+use Rattle.std.specs.Prelude.{ℕ, Bool, List, ◌++◌, length, take, drop, replicate, Result, Ok, Err}
 use Rattle.season.specs.declared.Season.{Season}
-use Rattle.verdict.specs.declared.Verdict.{Verdict}
-use Rattle.verdict.specs.declared.Verdict.TheVariants.{Accepted, Refused}
-use Rattle.verdict.specs.Refusals.{first_of}
+use Rattle.verdict.specs.declared.Refusal.{Refusal}
+use Rattle.verdict.specs.Refusals.{by_result, Verdict, Accepted, Refused, first_of}
 use Rattle.fields.specs.Fields.{season_of, merged}
 use Rattle.fields.specs.Refusals.{climate_lines, block_lines}
-use Rattle.sheet.specs.declared.Climate.{Climate}
-use Rattle.sheet.specs.declared.Sheet.{Sheet}
+use Rattle.sheet.specs.declared.Climate as code
 use Rattle.sheet.specs.Numbers.{Run, run, stop, numbers, Numbers, numbers_are, numbers_in}
 
 -- The numbers of a climate sheet, twenty-four; and of a block sheet, sixteen, and a seventeenth where bytes follow them.
@@ -22,6 +20,12 @@ abbrev pub then_refused : (List ℕ → List (Bool × ℕ × ℕ)) → Numbers �
 then_refused lines n = first_of n.verdict (lines n.fields)
 
 -- ---- a climate sheet
+
+-- A climate sheet's numbers, ETo and dependable rain by month, and its verdict.
+pub record Climate : Type 0 where
+  pub eto : List ℕ
+  pub rain : List ℕ
+  pub verdict : Verdict
 
 -- A refused climate sheet: its numbers are all 0.
 abbrev pub no_climate : ℕ → ℕ → Climate
@@ -43,6 +47,11 @@ unfoldable pub block_of : List ℕ → Numbers
 block_of block = numbers_are (block_numbers block).fields (then_refused block_lines (block_numbers block))
 
 -- ---- both
+
+-- A season and its verdict.
+pub record Sheet : Type 0 where
+  pub season : Season
+  pub verdict : Verdict
 
 abbrev pub sheet_is : Season → Verdict → Sheet
 sheet_is s v = record { season = s; verdict = v }
@@ -80,3 +89,14 @@ end_in size (stop number place) = size
 
 unfoldable pub climate_end : List ℕ → ℕ
 climate_end input = end_in (length input) (numbers 24 0 input)
+
+-- ---- what a result of the code says
+
+abbrev pub accepted_climate : code.Climate → Climate
+accepted_climate c = record { eto = c.eto; rain = c.rain; verdict = Accepted }
+
+abbrev pub climate_in : Result code.Climate Refusal → Climate
+climate_in = by_result accepted_climate no_climate
+
+abbrev pub sheet_in : Result Season Refusal → Sheet
+sheet_in = by_result (λ s. sheet_is s Accepted) refusal

@@ -1,12 +1,10 @@
 -- Document 02, T-02 and T-08: the writers. A climate's twenty-four numbers in, or a block's seventeen as the tablet has them (T-06: the last is
 -- February's days); the sheet's bytes at the start of a lent buffer and their count out.
-use Rattle.std.specs.Prelude.{ℕ, Bool, cond, List, [], ◌∷◌, ◌++◌, ltb, eqb, length, take, drop, get_or}
+use Rattle.std.specs.Prelude.{ℕ, Bool, cond, List, [], ◌∷◌, ◌++◌, ltb, eqb, length, take, drop, get_or, Result}
 use Rattle.season.specs.declared.Season.{Season}
-use Rattle.verdict.specs.declared.Verdict.{Verdict}
-use Rattle.verdict.specs.declared.Verdict.TheVariants as verdict
-use Rattle.verdict.specs.Refusals.{first_of}
-use Rattle.sheet.specs.declared.Written.{Written}
-use Rattle.sheet.specs.declared.Written.TheVariants.{Made, Refused}
+use Rattle.verdict.specs.declared.Refusal as code
+use Rattle.verdict.specs.Refusals.{Verdict, by_result, first_of}
+use Rattle.verdict.specs.Refusals as verdict
 use Rattle.sheet.specs.Numbers.{written}
 use Rattle.fields.specs.Fields.{february_of, block_fields}
 use Rattle.fields.specs.Refusals.{climate_lines, block_lines}
@@ -22,6 +20,11 @@ tablet_fields b = take 16 b ++ (february_of (block_fields b) ∷ [])
 -- The refusals of the numbers, as the reader gives them, then 15: the buffer has fewer bytes than the sheet.
 abbrev pub write_lines : List (Bool × ℕ × ℕ) → List ℕ → ℕ → List (Bool × ℕ × ℕ)
 write_lines lines bytes room = lines ++ ((ltb room (length bytes), 15, 0) ∷ [])
+
+-- What a writer answers: how many bytes the sheet has, or a refusal.
+pub data Written : Type 0 where
+  Made : ℕ → Written
+  Refused : ℕ → ℕ → Written
 
 -- The answer and the lent buffer after it, by the verdict: a refusal, and the buffer as it was; or how many bytes, the bytes, and what stood
 -- beyond them.
@@ -61,3 +64,7 @@ abbrev pub season_fields : Season → List ℕ
 season_fields s =
     s.month ∷ s.first ∷ s.initial ∷ s.development ∷ s.middle ∷ s.late ∷ s.kcini ∷ s.kcmid ∷ s.kcend
     ∷ s.water ∷ s.sowing ∷ s.full ∷ s.fraction ∷ s.efficiency ∷ s.opening ∷ s.turns ∷ s.february ∷ []
+
+-- What a result of the code says.
+abbrev pub written_in : Result ℕ code.Refusal → Written
+written_in = by_result Made Refused

@@ -1,6 +1,8 @@
 -- The loop is `SoFar` of proofs/Runs.antt; what it comes to stands in proofs/Further.antt.
 use Prim.Native.Nat.{ℕ, ◌≤◌, ◌<◌}
-use mathlib.Core.Path.{◌≡◌, sym, ◌∙◌}
+use mathlib.Core.Path.{◌≡◌, sym, ap, ◌∙◌}
+use Rattle.std.specs.Prelude.{Err}
+use Rattle.leb128.specs.Forms.{number_in}
 use native.Mathlib.Omega.{arith}
 use lib.ListN.{length}
 use Rattle.sheet.proofs.Runs.{start, reach_whole, reach_bad, at_whole}
@@ -13,49 +15,34 @@ same n = omega arith
 never : (k n : ℕ) → k < n → k ≡ n → ⊥
 never k n l e = omega arith
 
-pub loop-k-init : goal.loop-k-init
-loop-k-init c = start _ _
+pub loop-field-init : goal.loop-field-init
+loop-field-init c = start _ _
 
 pub overflow_add-at : goal.overflow_add-at
-overflow_add-at c = omega (arith, reach_whole c.loop-k.at c.args.sheet.now _ _ (sym c.read_at.ensures ∙ c.in-Whole.is) c.loop-k.invariant.within)
+overflow_add-at c = omega (arith, reach_whole c.loop-field.at c.args.sheet.now _ _ (sym c.read_at.ensures ∙ ap number_in c.in-Ok.is) c.loop-field.invariant.within)
 
-pub shape_of-fields-in-Short : goal.shape_of-fields-in-Short
-shape_of-fields-in-Short c = c.loop-k.invariant.whole
-
-pub returns-in-Short : goal.returns-in-Short
-returns-in-Short c = let w = c.loop-k.invariant in
+pub returns-in-Err-Short : goal.returns-in-Err-Short
+returns-in-Err-Short c = let w = c.loop-field.invariant in
     let n = length c.args.fields.now in
-    short_in n w (same n) (omega (arith, c.loop-k-test.true, w.whole)) (sym c.read_at.ensures ∙ c.in-Short.is) (λ e. absurd (never _ n (omega (arith, c.loop-k-test.true, w.whole)) e)) ∙ no_extra n c.args.sheet.now
+    short_in n w (same n) (omega (arith, c.loop-field-test.true, w.whole)) (sym c.read_at.ensures ∙ ap number_in (c.in-Err-Short.is ∙ ap Err c.in-Err-Short.field-0-is)) (λ e. absurd (never _ n (omega (arith, c.loop-field-test.true, w.whole)) e)) ∙ no_extra n c.args.sheet.now
 
 pub overflow_add-result : goal.overflow_add-result
-overflow_add-result c = omega (arith, reach_bad c.loop-k.at c.args.sheet.now _ (sym c.read_at.ensures ∙ c.in-Bad.is) c.loop-k.invariant.within)
+overflow_add-result c = omega (arith, reach_bad c.loop-field.at c.args.sheet.now _ (sym c.read_at.ensures ∙ ap number_in (c.in-Err-Bad.is ∙ ap Err c.in-Err-Bad.field-0-is)) c.loop-field.invariant.within)
 
-pub shape_of-fields-in-Bad : goal.shape_of-fields-in-Bad
-shape_of-fields-in-Bad c = c.loop-k.invariant.whole
-
-pub returns-in-Bad : goal.returns-in-Bad
-returns-in-Bad c = let w = c.loop-k.invariant in
+pub returns-in-Err-Bad : goal.returns-in-Err-Bad
+returns-in-Err-Bad c = let w = c.loop-field.invariant in
     let n = length c.args.fields.now in
-    bad_in n w (same n) (omega (arith, c.loop-k-test.true, w.whole)) _ (sym c.read_at.ensures ∙ c.in-Bad.is) ∙ no_extra n c.args.sheet.now
+    rw c.in-Err-Bad.field-0-is (bad_in n w (same n) (omega (arith, c.loop-field-test.true, w.whole)) _ (sym c.read_at.ensures ∙ ap number_in (c.in-Err-Bad.is ∙ ap Err c.in-Err-Bad.field-0-is)) ∙ no_extra n c.args.sheet.now)
 
-pub loop-k-smaller : goal.loop-k-smaller
-loop-k-smaller c = omega (arith, c.loop-k-test.true, c.loop-k.invariant.whole)
-
-pub loop-k-preserved : goal.loop-k-preserved
-loop-k-preserved c = at_whole c.loop-k.invariant (omega (arith, c.loop-k-test.true, c.loop-k.invariant.whole)) _ _ (sym c.read_at.ensures ∙ c.in-Whole.is)
-
-pub shape_of-fields-then-at-sheet : goal.shape_of-fields-then-at-sheet
-shape_of-fields-then-at-sheet c = c.loop-k.invariant.whole
+pub loop-field-preserved : goal.loop-field-preserved
+loop-field-preserved c = at_whole c.loop-field.invariant (omega (arith, c.loop-field-test.true, c.loop-field.invariant.whole)) _ _ (sym c.read_at.ensures ∙ ap number_in c.in-Ok.is)
 
 pub returns-then-at-sheet : goal.returns-then-at-sheet
-returns-then-at-sheet c = let w = c.loop-k.invariant in
+returns-then-at-sheet c = let w = c.loop-field.invariant in
     let n = length c.args.fields.now in
-    bytes_follow n w (same n) (omega (arith, c.loop-k-test.false, w.whole)) c.if-at-sheet.true ∙ no_extra n c.args.sheet.now
-
-pub shape_of-fields : goal.shape_of-fields
-shape_of-fields c = c.loop-k.invariant.whole
+    bytes_follow n w (same n) (omega (arith, c.loop-field-test.false, w.whole)) c.if-at-sheet.true ∙ no_extra n c.args.sheet.now
 
 pub returns : goal.returns
-returns c = let w = c.loop-k.invariant in
+returns c = let w = c.loop-field.invariant in
     let n = length c.args.fields.now in
-    all_read n w (same n) (omega (arith, c.loop-k-test.false, w.whole)) c.if-at-sheet.false ∙ no_extra n c.args.sheet.now
+    all_read n w (same n) (omega (arith, c.loop-field-test.false, w.whole)) c.if-at-sheet.false ∙ no_extra n c.args.sheet.now

@@ -1,11 +1,7 @@
 -- The loop is `SoFar` of proofs/Runs.antt; what it comes to stands in proofs/Further.antt.
-use Prim.Native.Nat.{◌-◌}
 use lib.ListN.{length}
 use Rattle.sheet.proofs.Runs.{SoFar}
 use Rattle.sheet.proofs.read_all.Given as goal
 
-abbrev pub invariant-loop-k : goal.invariant-loop-k
-invariant-loop-k l = SoFar l.sheet (length l.initial.fields) l.fields l.at l.k
-
-abbrev pub decreases-loop-k : goal.decreases-loop-k
-decreases-loop-k l = length l.initial.fields - l.k
+abbrev pub invariant-loop-field : goal.invariant-loop-field
+invariant-loop-field l = SoFar l.sheet (length l.initial.fields) l.fields l.at l.field-index

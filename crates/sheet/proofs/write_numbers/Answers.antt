@@ -6,14 +6,8 @@ use Rattle.sheet.specs.Numbers.{written}
 use Rattle.sheet.proofs.Answers.{short_written, put_written, copied_written, bytes_taken}
 use Rattle.sheet.proofs.write_numbers.Goals as goal
 
-pub put_numbers-requires : goal.put_numbers-requires
-put_numbers-requires c = omega (arith, c.requires.0, c.if-most-sheet.true)
-
 pub returns-then-most-sheet : goal.returns-then-most-sheet
 returns-then-most-sheet c = put_written (written c.args.numbers.now) c.args.sheet.now (omega (arith, c.requires.0, c.if-most-sheet.true)) c.put_numbers.ensures.0 c.put_numbers.ensures.1
-
-pub put_numbers-count-requires : goal.put_numbers-count-requires
-put_numbers-count-requires c = omega (arith, c.requires.0, c.requires.1)
 
 pub returns-then-sheet-count : goal.returns-then-sheet-count
 returns-then-sheet-count c = short_written (written c.args.numbers.now) c.args.sheet.now (omega (arith, c.if-sheet-count.true, c.put_numbers-count.ensures.0))
