@@ -1,7 +1,7 @@
 -- What the calls answer, by what the opening found.
 use Rattle.season.specs.Day.{AcceptedSeason}
 use Prim.Native.Nat.{◌+◌, ◌-◌, ◌<◌, ◌≤◌, min, suc, ℕ}
-use mathlib.Core.Path.{◌∙◌, ◌≡◌, ap, ap₂, refl, sym}
+use mathlib.Core.Path.{◌∙◌, ◌≡◌, ap, refl, sym}
 use mathlib.Core.List.{List, [], ◌++◌, ◌∷◌, map}
 use mathlib.Core.Bool.{Bool, ◌||◌, false, true, true≢false}
 use native.Mathlib.Omega.{arith}
@@ -9,9 +9,7 @@ use lib.ListN.{drop, get_or, length, length-append, length-drop, set, take}
 use lib.Seq.{drop-cons}
 use lib.Dec.{leb, ltb}
 use borrow.Author.Tests.{eq-eqb, le-leb, leb-true, lt-leb, ltb-false, ne_eqb}
-use Rattle.verdict.specs.declared.Verdict.{Verdict}
-use Rattle.verdict.specs.declared.Verdict.TheVariants.{Accepted}
-use Rattle.verdict.specs.Refusals.{first_of}
+use Rattle.verdict.specs.Refusals.{Verdict, Accepted, first_of}
 use Rattle.verdict.proofs.First.{accepted_fails}
 use Rattle.leb128.proofs.Parts.{tail_part}
 use Rattle.season.specs.declared.Season.{Season}
@@ -19,14 +17,10 @@ use Rattle.season.specs.Sheet.{season_days}
 use Rattle.season.specs.Loss.{ky_outside}
 use Rattle.journal.specs.declared.Entry.{Entry}
 use Rattle.journal.specs.declared.Ledger.{Ledger}
-use Rattle.journal.specs.declared.Opening.{Opening}
-use Rattle.journal.specs.declared.Opening.TheVariants.{Clean, Torn}
+use Rattle.journal.specs.Opening.{Opening, Clean, Torn, behind, is_blank, opening, replayed, torn_at, trim}
 use Rattle.journal.specs.declared.Stores.{Stores}
-use Rattle.journal.specs.declared.Recorded.{Recorded}
-use Rattle.journal.specs.declared.Opened.{Opened}
+use Rattle.journal.specs.Calls.{Recorded, Opened, recorded_with, opened, opened_on, opened_with, no_stores, recorded, recorded_on, wipe, wipe_places, wipes_in, stores_of}
 use Rattle.journal.specs.Entries.{refusal}
-use Rattle.journal.specs.Opening.{behind, is_blank, opening, replayed, torn_at, trim}
-use Rattle.journal.specs.Calls.{recorded_with, opened, opened_on, opened_with, no_stores, recorded, recorded_on, wipe, wipe_places, wipes_in, stores_of}
 use Rattle.journal.specs.Loss.{loss_refusals}
 use Rattle.journal.specs.Carried.{Bounded}
 use Rattle.journal.proofs.Beginnings.{torn_few}
@@ -35,8 +29,8 @@ use Rattle.journal.proofs.Literal.{trim_is}
 use Rattle.journal.proofs.Sums.{replayed_place, replayed_rest, replayed_within}
 use Rattle.journal.proofs.Trims.{drop_trim, trim_le}
 use Rattle.journal.proofs.Writing.{length_wipe_places, unwiped_le, unwiped_some, wipe_places_append, wipe_places_blank, wipe_places_other, wipe_places_replicate}
-use Rattle.verdict.specs.declared.Verdict.TheVariants as verdict
-use Rattle.journal.specs.declared.Opening.TheVariants as found
+use Rattle.verdict.specs.Refusals as verdict
+use Rattle.journal.specs.Opening as found
 
 module _ (s : Season) (area : List ℕ) where
   pub opens_large : 8192 < length area → found.Refused 8 0 ≡ opening s area
@@ -226,14 +220,6 @@ module _ {tail : List ℕ} {place n : ℕ} {places : List ℕ} {count i : ℕ} (
         counted = rw (q, length-append) (omega (arith, w.counted));
         stored = rw q (ap (λ (x : List ℕ). set x count p) w.stored ∙ stored_next seen count p w.counted (omega (arith, w.fewer, w.few)));
       }
-
-pub wiped_all_done : {tail : List ℕ} {place n : ℕ} {places : List ℕ} {count i : ℕ} (o : Opening) → Wiped tail place n places count i → n ≤ i
-    → record { opening = o; places = places; count = count } ≡ opened_with o (wipe_places place tail)
-wiped_all_done {tail} {place} {n} {places} {count} {i} o w h =
-    let z : n - i ≡ 0 = omega (arith, w.within) in
-    let y : place + (n - i) ≡ place = omega arith in
-    let q : wipe_places (place + (n - i)) (drop (n - i) tail) ≡ wipe_places place tail = ap₂ (λ (p k : ℕ). wipe_places p (drop k tail)) y z in
-    rw (w.counted, w.stored, q)
 
 -- what a torn journal's tail has
 pub torn_tail : (s : Season) (area : List ℕ) (v : AcceptedSeason s) (p : ℕ) → TornHere s area v p

@@ -1,4 +1,5 @@
 -- Laws of the journal.
+pub mod Found
 pub mod Cases
 pub mod GroupLaws
 pub mod Tails

@@ -1,20 +1,15 @@
 -- Request T-03: what the call loss answers of a journal. Ky is in hundredths, a loss in ten-thousandths.
-use Rattle.std.specs.Prelude.{ℕ, Bool, true, false, List, [], ◌∷◌}
-use Rattle.verdict.specs.declared.Verdict.{Verdict}
-use Rattle.verdict.specs.declared.Verdict.TheVariants.{Accepted}
-use Rattle.verdict.specs.declared.Verdict.TheVariants as verdict
-use Rattle.verdict.specs.Refusals.{first_of}
+use Rattle.std.specs.Prelude.{ℕ, Bool, true, false, List, [], ◌∷◌, Result}
+use Rattle.verdict.specs.declared.Refusal.{Refusal}
+use Rattle.verdict.specs.Refusals.{by_result, Verdict, Accepted, first_of}
+use Rattle.verdict.specs.Refusals as verdict
 use Rattle.season.specs.declared.Season.{Season}
 use Rattle.season.specs.Loss.{ky_outside, loss_of}
 use Rattle.journal.specs.declared.StageSums.{StageSums}
 use Rattle.journal.specs.declared.Ledger.{Ledger}
-use Rattle.journal.specs.declared.Opening.{Opening}
-use Rattle.journal.specs.declared.Opening.TheVariants.{Clean, Torn}
-use Rattle.journal.specs.declared.Opening.TheVariants as found
+use Rattle.journal.specs.Opening.{Opening, Clean, Torn, opening}
+use Rattle.journal.specs.Opening as found
 use Rattle.journal.specs.declared.Losses.{Losses}
-use Rattle.journal.specs.declared.Lost.{Lost}
-use Rattle.journal.specs.declared.Lost.TheVariants.{Parts, Refused}
-use Rattle.journal.specs.Opening.{opening}
 
 -- The season's loss by F and U, and each stage's by its own two sums, all by one Ky.
 abbrev pub loss_by : ℕ → StageSums → ℕ
@@ -33,6 +28,11 @@ losses_of ky l =
 -- Refusals 17 and 10, where the journal is torn at a place, or is not. Each line: a test, the number, the number returned with it.
 abbrev pub loss_refusals : ℕ → Bool → ℕ → List (Bool × ℕ × ℕ)
 loss_refusals ky torn place = (ky_outside ky, 17, 0) ∷ (torn, 10, place) ∷ []
+
+-- What the call answers: the losses, or a refusal.
+pub data Lost : Type 0 where
+  Parts : Losses → Lost
+  Refused : ℕ → ℕ → Lost
 
 -- The losses, or the refusal.
 abbrev pub lost_unless : Verdict → Losses → Lost
@@ -55,3 +55,7 @@ lost s area ky = lost_on ky (opening s area)
 abbrev pub loss_numbers : Lost → List ℕ
 loss_numbers (Parts p) = 0 ∷ 0 ∷ p.season ∷ p.initial ∷ p.development ∷ p.middle ∷ p.late ∷ []
 loss_numbers (Refused number value) = number ∷ value ∷ []
+
+-- What a result of the code says.
+abbrev pub lost_in : Result Losses Refusal → Lost
+lost_in = by_result Parts Refused

@@ -1,8 +1,7 @@
 -- Document 02, T-09: who may look, record and mend. A role is a number: 1 looks, 2 also enters rain, irrigation and closings, 3 is also
 -- handed the mending stores of an opening. Cited by the book and by the calls.
 use Rattle.std.specs.Prelude.{ℕ, Bool, ◌||◌, List, [], ◌∷◌, ◌++◌, ltb, eqb}
-use Rattle.verdict.specs.declared.Verdict.TheVariants.{Accepted, Refused}
-use Rattle.verdict.specs.Refusals.{first_of}
+use Rattle.verdict.specs.Refusals.{Accepted, Refused, first_of}
 
 -- A refusal's test, its number, and the number returned with it.
 abbrev pub Line : Type 0

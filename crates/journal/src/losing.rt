@@ -3,12 +3,12 @@ ghost use Rattle.std.specs.Prelude.{◌≡◌, ◌≤◌};
 ghost use Rattle.season.specs.Day.{AcceptedSeason};
 ghost use Rattle.season.specs.Loss.{ky_outside};
 ghost use Rattle.journal.specs.Sums.{UsedAtMost};
-ghost use Rattle.journal.specs.Loss.{loss_by, losses_of, lost_by, lost};
+ghost use Rattle.journal.specs.Loss.{loss_by, losses_of, lost_by, lost, lost_in};
 
 use crate::calls::find;
-use crate::{Ledger, Losses, Lost, Opening, StageSums};
+use crate::{Ledger, Losses, Opening, StageSums};
 use season::Season;
-use verdict::Verdict;
+use verdict::{OrRefused, Reason, Refusal, refuse_if};
 
 fn loss_of(ky: u32, p: StageSums) -> u32
     requires { (ky ≤ 200) × (p.used ≤ p.need) }
@@ -43,35 +43,27 @@ fn losses_of(ky: u32, l: Ledger) -> Losses
 fn is_outside(ky: u32) -> bool
     ensures { result ≡ ky_outside ky }
 {
-    if ky < 1 {
-        return true;
-    }
-    200 < ky
+    !(1..=200).contains(&ky)
 }
 
 // By a ledger whose journal is torn at a place, or is not: the first of refusals 17 and 10, or the losses.
-fn lost_by(ky: u32, l: Ledger, torn: bool, place: usize) -> Lost
+fn lost_by(ky: u32, l: Ledger, torn: bool, place: usize) -> Result<Losses, Refusal>
     requires { UsedAtMost l }
-    ensures { result ≡ lost_by ky l torn place }
+    ensures { lost_in result ≡ lost_by ky l torn place }
 {
     let outside = is_outside(ky);
-    match Verdict::Accepted
-        .or_refused(outside, 17, 0)
-        .or_refused(torn, 10, place)
-    {
-        Verdict::Accepted => Lost::Parts(losses_of(ky, l)),
-        Verdict::Refused(number, value) => Lost::Refused(number, value),
-    }
+    refuse_if(outside, Reason::YieldFactorOutside, 0).or_refused(torn, Reason::Torn, place)?;
+    Ok(losses_of(ky, l))
 }
 
 // Refusals 8, 9, 17 and 10. It answers with all days closed too.
-pub fn loss(s: Season, area: &[u8], ky: u32) -> Lost
+pub fn loss(s: Season, area: &[u8], ky: u32) -> Result<Losses, Refusal>
     requires { AcceptedSeason s }
-    ensures { result ≡ lost s area.now ky }
+    ensures { lost_in result ≡ lost s area.now ky }
 {
     match find(s, area) {
         Opening::Clean(l) => lost_by(ky, l, false, 0),
         Opening::Torn(l, place) => lost_by(ky, l, true, place),
-        Opening::Refused(number, place) => Lost::Refused(number, place),
+        Opening::Refused(reason, value) => Err(Refusal { reason, value }),
     }
 }
