@@ -12,15 +12,12 @@ use Rattle.season.specs.declared.Season.{Season}
 use Rattle.season.specs.Sheet.{Valid, DayOf, longest_season}
 use Rattle.season.specs.declared.Net.{Net}
 use Rattle.season.specs.declared.Gross.{Gross}
-use Rattle.planner.specs.declared.Drawn.{Drawn}
-use Rattle.planner.specs.declared.Drawn.TheVariants.{Whole, Lost}
-use Rattle.planner.specs.declared.Planned.{Planned}
-use Rattle.planner.specs.declared.Planned.TheVariants.{Made, Refused}
+use Rattle.std.specs.Prelude.{Result, Ok, Err}
+use Rattle.planner.specs.Answer.{Planned, Made, Refused, sum, net_of, settles, answer_to, answer}
 use Rattle.planner.specs.Choices.{irrigated}
 use Rattle.planner.specs.Plan.{Plan, depths, plan}
 use Rattle.planner.specs.Outlook.{outlook, days_left}
 use Rattle.season.specs.Depths.{gross_of}
-use Rattle.planner.specs.Answer.{sum, net_of, settles, answer_to, answer}
 use Rattle.planner.specs.Bank.{outlook_left, answer_left}
 use Rattle.planner.proofs.Lists.{take_zeros}
 use Rattle.planner.proofs.Bounds.{plan_made, net_at_most}
@@ -34,8 +31,8 @@ pub record Finished (s : Season) (today waiting : ℕ) (used : List ℕ) (limit 
   pub short : length l ≤ longest_season
   pub small : sum l ≤ 120000 + 3000 * longest_season
 
-pub finished : {s : Season} {today D : ℕ} {r : Drawn} {l : List ℕ} (waiting : ℕ) (used : List ℕ) (limit : ℕ) → Valid s → DayOf s today → D ≤ 120000
-    → settles r l ≡ plan (outlook_left s today waiting used limit) (days_left s today) today D → r ≡ Whole → Finished s today waiting used limit D l
+pub finished : {s : Season} {today D : ℕ} {r : Result (Unit {0}) ℕ} {l : List ℕ} {x : Unit {0}} (waiting : ℕ) (used : List ℕ) (limit : ℕ) → Valid s → DayOf s today → D ≤ 120000
+    → settles r l ≡ plan (outlook_left s today waiting used limit) (days_left s today) today D → r ≡ Ok x → Finished s today waiting used limit D l
 finished {s} {today} {D} {r} {l} waiting used limit v d h e t =
     let is : plan (outlook_left s today waiting used limit) (days_left s today) today D ≡ depths l = rw t at (sym e) in
     let best = plan_made (outlook_left s today waiting used limit) (days_left s today) today D l is in
@@ -54,7 +51,7 @@ pub answer_made : {s : Season} {today waiting : ℕ} {used : List ℕ} {limit D 
 unfolding answer_to
 answer_made e l₀ f a b c d = rw (f.is, a, c, b, d)
 
-pub answer_lost : {r : Drawn} {p : Plan} {f : ℕ} (e : ℕ) (l l₀ : List ℕ) → settles r l ≡ p → r ≡ Lost f → ◌≡◌ {A = Planned × List ℕ} (Refused 16 f, l₀) (answer_to e l₀ p)
+pub answer_lost : {r : Result (Unit {0}) ℕ} {p : Plan} {f : ℕ} (e : ℕ) (l l₀ : List ℕ) → settles r l ≡ p → r ≡ Err f → ◌≡◌ {A = Planned × List ℕ} (Refused 16 f, l₀) (answer_to e l₀ p)
 unfolding answer_to
 answer_lost e l l₀ h t = rw (← h, t)
 

@@ -14,12 +14,10 @@ use Rattle.season.specs.declared.Season.{Season}
 use Rattle.season.specs.Sheet.{Valid, DayOf, longest_season}
 use Rattle.season.specs.declared.Net.{Net}
 use Rattle.season.specs.declared.Gross.{Gross}
-use Rattle.planner.specs.declared.Planned.{Planned}
-use Rattle.planner.specs.declared.Planned.TheVariants.{Made, Refused}
+use Rattle.planner.specs.Answer.{Planned, Made, Refused, numbers_of, answer_to, answer}
 use Rattle.planner.specs.Choices.{Outlook, planned_day, Holds, irrigated, Fills, NoMore, Best, FirstLost, NoChoice}
 use Rattle.planner.specs.Plan.{Plan, depths, refused, plan}
 use Rattle.planner.specs.Outlook.{outlook, days_left}
-use Rattle.planner.specs.Answer.{numbers_of, answer_to, answer}
 use Rattle.planner.specs.Claims.{MadeRight, Occurs, Claims}
 use Rattle.planner.proofs.Days.{Right}
 use Rattle.planner.proofs.Walks.{walks_right}

@@ -2,12 +2,10 @@
 -- day after d, the open day that all blocks have.
 use Rattle.std.specs.Prelude.{ℕ, ◌+◌, ◌-◌, ◌&&◌, true, false, List, [], ◌∷◌, ltb, length, get_or}
 use Rattle.season.specs.declared.Season.{Season}
-use Rattle.planner.specs.declared.Planned.{Planned}
-use Rattle.planner.specs.declared.Planned.TheVariants.{Refused}
+use Rattle.planner.specs.Answer.{Planned, Refused, answer_to}
 use Rattle.planner.specs.Choices.{Outlook, irrigated}
 use Rattle.planner.specs.Plan.{Plan, depths, refused, plan}
 use Rattle.planner.specs.Outlook.{outlook, days_left}
-use Rattle.planner.specs.Answer.{answer_to}
 
 -- How many of these plans have a depth above 0 at place j. Past a plan's end it is 0.
 unfoldable pub watering : List (List ℕ) → ℕ → ℕ

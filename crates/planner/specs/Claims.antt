@@ -6,12 +6,10 @@ use Rattle.season.specs.declared.Net.{Net}
 use Rattle.season.specs.declared.Gross.{Gross}
 use Rattle.season.specs.Sheet.{Valid, DayOf, longest_season}
 use Rattle.season.specs.Depths.{net_is, gross_of}
-use Rattle.planner.specs.declared.Planned.{Planned}
-use Rattle.planner.specs.declared.Planned.TheVariants.{Made, Refused}
+use Rattle.planner.specs.Answer.{Planned, Made, Refused, sum, numbers_of, answer}
 use Rattle.planner.specs.Choices.{Outlook, irrigated, NoMore, Holds, Best, FirstLost, NoChoice}
 use Rattle.planner.specs.Plan.{depths, refused, plan}
 use Rattle.planner.specs.Outlook.{outlook, days_left}
-use Rattle.planner.specs.Answer.{sum, numbers_of, answer}
 use Rattle.planner.specs.Bank.{watering, Ask, given, plan_alone, bank_plans}
 
 -- What a plan made for a season and its ledger leaves in the buffer, l at first and m in the end, and answers.

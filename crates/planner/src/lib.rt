@@ -9,16 +9,28 @@ ghost use Rattle.planner.specs.Choices.{irrigated};
 ghost use Rattle.planner.specs.Plan.{plan};
 ghost use Rattle.planner.specs.Outlook.{outlook_on, days_left};
 ghost use Rattle.planner.specs.Carried.{turn_in, track_from, pass_day};
-ghost use Rattle.planner.specs.Answer.{sum, net_of, settles, answer_to, answer};
+ghost use Rattle.planner.specs.Answer.{sum, net_of, settles, answer_to, answer, planned_in};
 ghost use Rattle.planner.specs.Bank.{outlook_left, answer_left};
 
 use season::{Gross, Net, Season, SeasonDay};
+use verdict::{Reason, Refusal};
 
-// A plan is made: how many depths are above 0, and the totals. Or it is refused: document 01's number, and the number returned with it.
+// What a plan comes to: how many depths are above 0, their total, and the gross total.
 #[derive(Clone, Copy)]
-pub enum Planned {
-    Made(u32, Net, Gross),
-    Refused(u32, usize),
+pub struct Totals {
+    pub waterings: u32,
+    pub net: Net,
+    pub gross: Gross,
+}
+
+// What a plan starts from: the open day, the water that waits on it, and the turn days that are left. A day counts where fewer than `limit`
+// of the valves are used; `used` has their numbers from the open day on, and past its end none are.
+#[derive(Clone, Copy)]
+struct OpenDay<'a> {
+    today: u32,
+    waiting: u32,
+    used: &'a [u32],
+    limit: u32,
 }
 
 // What planning reads of a day.
@@ -40,65 +52,54 @@ struct Track {
     depth: u32,
 }
 
-// The depths are made, or the day that no choice holds.
-#[derive(Clone, Copy)]
-enum Drawn {
-    Whole,
-    Lost(u32),
-}
-
 // ---- a planned day
 
-// On the open day waiting water stands in place of planned rain.
-fn water_on(today: u32, waiting: u32, day: u32, rain: u32) -> u32
-    ensures { result ≡ cond (eqb day today) waiting rain }
-{
-    if day == today { waiting } else { rain }
-}
-
-// How many valves are used on the day at a place from the open day on: past the counts none.
-fn used_at(used: &[u32], place: usize) -> u32
-    ensures { result ≡ get_or used.now place 0 }
-{
-    if place < used.len() { used[place] } else { 0 }
-}
-
-// Whether a turn day is left: fewer than the limit are used. Only a turn day's count is read.
-fn turn_left(turns: u32, week: u32, used: &[u32], limit: u32, place: usize) -> bool
-    requires { week < 7 }
-    ensures { result ≡ (turn_in turns week && ltb (get_or used.now place 0) limit) }
-{
-    if turn_in(turns, week) {
-        return used_at(used, place) < limit;
+impl OpenDay<'_> {
+    // On the open day waiting water stands in place of planned rain.
+    fn water_on(self, day: u32, rain: u32) -> u32
+        ensures { result ≡ cond (eqb day self.entry.today) self.entry.waiting rain }
+    {
+        if day == self.today {
+            self.waiting
+        } else {
+            rain
+        }
     }
-    false
+
+    // How many valves are used on a day.
+    fn used_on(self, day: u32) -> u32
+        requires { self.today ≤ day }
+        ensures { result ≡ get_or self.entry.used.now (day - self.entry.today) 0 }
+    {
+        let place = (day - self.today) as usize;
+        self.used.get(place).copied().unwrap_or(0)
+    }
+
+    // Whether a turn day is left. Only a turn day's count is read.
+    fn turn_on(self, turns: u32, week: u32, day: u32) -> bool
+        requires { (week < 7) × (self.today ≤ day) }
+        ensures { result ≡ (turn_in turns week && ltb (get_or self.entry.used.now (day - self.entry.today) 0) self.entry.limit) }
+    {
+        turn_in(turns, week) && self.used_on(day) < self.limit
+    }
 }
 
-fn outlook_on(
-    s: Season,
-    today: u32,
-    waiting: u32,
-    t: SeasonDay,
-    rain: u32,
-    week: u32,
-    used: &[u32],
-    limit: u32,
-) -> DayOutlook
+// What planning reads of a season day, by its planned rain and its day of the week.
+fn outlook_on(s: Season, from: OpenDay, t: SeasonDay, rain: u32, week: u32) -> DayOutlook
     requires valid { Valid s }
     requires on_day { OnDay s t }
-    requires today_le_number { today ≤ t.number }
+    requires today_le_number { from.today ≤ t.number }
     requires rain_value { rain ≡ rain_on s t.number }
     requires week_value { week ≡ (t.number - 1) % 7 }
-    ensures { result ≡ outlook_on (outlook_left s today waiting used.now limit) t.number }
+    ensures { result ≡ outlook_on (outlook_left s from.entry.today from.entry.waiting from.entry.used.now from.entry.limit) t.number }
 {
-    let place = (t.number - today) as usize;
     let need = season::crop_need(s, t);
     let ready = season::ready_on(s, t);
     DayOutlook {
-        water: water_on(today, waiting, t.number, rain),
-        need: need,
-        ready: ready,
-        turn: turn_left(s.turns, week, used, limit, place),
+        water: from.water_on(t.number, rain),
+        need,
+        ready,
+        turn: from.turn_on(s.turns, week, t.number),
     }
 }
 
@@ -152,59 +153,51 @@ fn pass_day(track: Track, ahead: DayOutlook, day: u32) -> Track
     requires need_bound { track.depletion + ahead.need < 4294967296 }
     ensures { result ≡ pass_day track ahead day }
 {
-    let left = season::saturating_sub(track.depletion, ahead.water);
+    let left = track.depletion.saturating_sub(ahead.water);
     let depletion = planned_day(left, ahead.need);
     if ahead.turn {
         return Track {
-            depletion: depletion,
+            depletion,
             filled: planned_day(0, ahead.need),
             turn: day,
             depth: left,
         };
     }
-    let spared = season::saturating_sub(track.filled, ahead.water);
+    let spared = track.filled.saturating_sub(ahead.water);
     Track {
-        depletion: depletion,
+        depletion,
         filled: planned_day(spared, ahead.need),
-        turn: track.turn,
-        depth: track.depth,
+        ..track
     }
 }
 
 // The depths of the days from `today` on, where zeros stand at first, in one pass. Where a day fails, the latest turn day since the last
-// watering is filled, and the pass goes on as if it had been all along; where the day fails then too, no choice holds it. The month's
-// planned rain and the day of the week are carried along. The season ends where a month or a stage does, and only there is its end tested.
-fn draw_depths(
-    s: Season,
-    today: u32,
-    waiting: u32,
-    start: u32,
-    used: &[u32],
-    limit: u32,
-    depths: &mut [u32],
-) -> Drawn
+// watering is filled, and the pass goes on as if it had been all along; where the day fails then too, no choice holds it, and it is the
+// error. The month's planned rain and the day of the week are carried along. The season ends where a month or a stage does, and only
+// there is its end tested.
+fn draw_depths(s: Season, from: OpenDay, start: u32, depths: &mut [u32]) -> Result<(), u32>
     requires valid { Valid s }
-    requires day_of { DayOf s today }
+    requires day_of { DayOf s from.today }
     requires start_bound { start ≤ 120000 }
-    requires depths_value { depths.old ≡ replicate (days_left s today) 0 }
-    ensures { settles result depths.new ≡ plan (outlook_left s today waiting used.now limit) (days_left s today) today start }
+    requires depths_value { depths.old ≡ replicate (days_left s from.today) 0 }
+    ensures { settles result depths.new ≡ plan (outlook_left s from.entry.today from.entry.waiting from.entry.used.now from.entry.limit) (days_left s from.entry.today) from.entry.today start }
 {
     let last = season::season_days(s);
     // A struct that a call writes stays in memory: t is a copy.
-    let first = season::day_of(s, today);
+    let first = season::day_of(s, from.today);
     let mut t = first;
     let mut before = season::rain_to(s, t, t.day - 1);
-    let mut week = (today - 1) % 7;
-    let mut track = track_from(today, start);
+    let mut week = (from.today - 1) % 7;
+    let mut track = track_from(from.today, start);
     loop {
         let to = season::rain_to(s, t, t.day);
-        let ahead = outlook_on(s, today, waiting, t, to - before, week, used, limit);
+        let ahead = outlook_on(s, from, t, to - before, week);
         track = pass_day(track, ahead, t.number);
         if ahead.ready < track.depletion {
             if ahead.ready < track.filled {
-                return Drawn::Lost(t.number);
+                return Err(t.number);
             }
-            let place = (track.turn - today) as usize;
+            let place = (track.turn - from.today) as usize;
             depths[place] = track.depth;
             track.depletion = track.filled;
         }
@@ -215,7 +208,7 @@ fn draw_depths(
             continue;
         }
         if last <= t.number {
-            return Drawn::Whole;
+            return Ok(());
         }
         let next = season::next_day(s, t);
         t = next;
@@ -225,17 +218,14 @@ fn draw_depths(
 
 // ---- the answer
 
-// How many depths are above 0.
+// How many depths are above 0. (A loop: a filter's count is not compiled to wide instructions.)
 fn irrigated_days(depths: &[u32]) -> u32
     requires { length depths.now ≤ longest_season }
     ensures { result ≡ irrigated depths.now }
 {
     let mut days = 0;
-    let mut i: usize = 0;
-    while i < depths.len() {
-        let depth = depths[i];
-        i += 1;
-        if 0 < depth {
+    for depth in depths {
+        if 0 < *depth {
             days += 1;
         }
     }
@@ -247,13 +237,7 @@ fn net_total(depths: &[u32]) -> Net
     requires { sum depths.now < 4294967296 }
     ensures { result ≡ net_of depths.now }
 {
-    let mut total = 0;
-    let mut i: usize = 0;
-    while i < depths.len() {
-        total += depths[i];
-        i += 1;
-    }
-    Net(total)
+    Net(depths.iter().sum())
 }
 
 // The depths to the start of a lent buffer. What stands beyond them stays.
@@ -261,40 +245,39 @@ fn copy_depths(depths: &[u32], out: &mut [u32])
     requires { length depths.now ≤ length out.old }
     ensures { out.new ≡ depths.now ++ drop (length depths.now) out.old }
 {
-    let mut i: usize = 0;
-    while i < depths.len() {
-        out[i] = depths[i];
-        i += 1;
-    }
+    out[..depths.len()].copy_from_slice(depths);
 }
 
 // The plan, drawn in `draft`, where zeros stand at first. Only a plan that is made is copied to the lent buffer.
 fn answer_from(
     s: Season,
-    today: u32,
+    from: OpenDay,
     depletion: u32,
-    waiting: u32,
-    used: &[u32],
-    limit: u32,
     draft: &mut [u32],
     depths: &mut [u32],
-) -> Planned
+) -> Result<Totals, Refusal>
     requires valid { Valid s }
-    requires day_of { DayOf s today }
+    requires day_of { DayOf s from.today }
     requires depletion_bound { depletion ≤ 120000 }
-    requires draft_value { draft.old ≡ replicate (days_left s today) 0 }
-    requires today_in_bounds { days_left s today ≤ length depths.old }
-    ensures { (result, depths.new) ≡ answer_to s.efficiency depths.old (plan (outlook_left s today waiting used.now limit) (days_left s today) today depletion) }
+    requires draft_value { draft.old ≡ replicate (days_left s from.today) 0 }
+    requires today_in_bounds { days_left s from.today ≤ length depths.old }
+    ensures { (planned_in result, depths.new) ≡ answer_to s.efficiency depths.old (plan (outlook_left s from.entry.today from.entry.waiting from.entry.used.now from.entry.limit) (days_left s from.entry.today) from.entry.today depletion) }
 {
-    let drawn = draw_depths(s, today, waiting, depletion, used, limit, draft);
-    if let Drawn::Lost(day) = drawn {
-        return Planned::Refused(16, day as usize);
+    if let Err(day) = draw_depths(s, from, depletion, draft) {
+        return Err(Refusal {
+            reason: Reason::NoChoice,
+            value: day as usize,
+        });
     }
     let days = irrigated_days(draft);
     let net = net_total(draft);
     let gross = season::gross_of(s.efficiency, net);
     copy_depths(draft, depths);
-    Planned::Made(days, net, gross)
+    Ok(Totals {
+        waterings: days,
+        net,
+        gross,
+    })
 }
 
 // The plan on the turn days that are left (document 02, T-10): a day counts where fewer than `limit` of the valves are used. `used` has their numbers from
@@ -307,35 +290,41 @@ pub fn plan_left(
     used: &[u32],
     limit: u32,
     depths: &mut [u32],
-) -> Planned
+) -> Result<Totals, Refusal>
     requires valid { Valid s }
     requires day_of { DayOf s today }
     requires depletion_bound { depletion ≤ 120000 }
-    ensures { (result, depths.new) ≡ answer_left s today depletion waiting used.now limit depths.old }
+    ensures { (planned_in result, depths.new) ≡ answer_left s today depletion waiting used.now limit depths.old }
 {
     let count = (season::season_days(s) + 1 - today) as usize;
     if depths.len() < count {
-        return Planned::Refused(15, 0);
+        return Err(Refusal {
+            reason: Reason::BufferShort,
+            value: 0,
+        });
     }
     let mut draft = [0u32; season::LONGEST_SEASON];
-    answer_from(
-        s,
+    let from = OpenDay {
         today,
-        depletion,
         waiting,
         used,
         limit,
-        &mut draft[..count],
-        depths,
-    )
+    };
+    answer_from(s, from, depletion, &mut draft[..count], depths)
 }
 
 // The plan from the open day to the season's end, starting at the ledger's depletion, with the water that waits on the open day.
-pub fn make_plan(s: Season, today: u32, depletion: u32, waiting: u32, depths: &mut [u32]) -> Planned
+pub fn make_plan(
+    s: Season,
+    today: u32,
+    depletion: u32,
+    waiting: u32,
+    depths: &mut [u32],
+) -> Result<Totals, Refusal>
     requires valid { Valid s }
     requires day_of { DayOf s today }
     requires depletion_bound { depletion ≤ 120000 }
-    ensures { (result, depths.new) ≡ answer s today depletion waiting depths.old }
+    ensures { (planned_in result, depths.new) ≡ answer s today depletion waiting depths.old }
 {
     let none = [0u32; 1];
     plan_left(s, today, depletion, waiting, &none[..0], 1, depths)

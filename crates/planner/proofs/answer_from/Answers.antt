@@ -4,12 +4,12 @@ use Rattle.planner.proofs.Answers.{Finished, finished, answer_made, answer_lost}
 use Rattle.planner.proofs.answer_from.Goals as goal
 use Rattle.planner.proofs.answer_from.Goals.{In_default}
 
-pub returns-in-Lost : goal.returns-in-Lost
-returns-in-Lost c = answer_lost c.args.s.efficiency _ c.args.depths.now c.draw_depths-drawn.ensures c.in-Lost.is
+pub returns-in-Err : goal.returns-in-Err
+returns-in-Err c = answer_lost c.args.s.efficiency _ c.args.depths.now c.draw_depths.ensures c.in-Err.is
 
 -- the draft is whole
-done : (c : In_default) → Finished c.args.s c.args.today c.args.waiting c.args.used.now c.args.limit c.args.depletion c.draw_depths-drawn.new.depths
-done c = finished c.args.waiting c.args.used.now c.args.limit c.requires.valid c.requires.day_of c.requires.depletion_bound c.draw_depths-drawn.ensures c.in_default.is
+done : (c : In_default) → Finished c.args.s c.args.from.today c.args.from.waiting c.args.from.used.now c.args.from.limit c.args.depletion c.draw_depths.new.depths
+done c = finished c.args.from.waiting c.args.from.used.now c.args.from.limit c.requires.valid c.requires.day_of c.requires.depletion_bound c.draw_depths.ensures c.in_default.is
 
 pub irrigated_days-days-requires : goal.irrigated_days-days-requires
 irrigated_days-days-requires c = (done (goal.at.irrigated_days-days-requires c).In_default).short

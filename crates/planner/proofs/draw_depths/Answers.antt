@@ -31,7 +31,7 @@ overflow_sub-week c = c.requires.day_of.from
 
 pub loop-track-init : goal.loop-track-init
 loop-track-init c = rw c.track_from-track.ensures
-    (drawing_start c.args.waiting c.args.used.now c.args.limit c.requires.valid c.requires.day_of c.requires.start_bound c.requires.depths_value c.season_days-last.ensures c.day_of-first.ensures c.rain_to-before.ensures)
+    (drawing_start c.args.from.waiting c.args.from.used.now c.args.from.limit c.requires.valid c.requires.day_of c.requires.start_bound c.requires.depths_value c.season_days-last.ensures c.day_of-first.ensures c.rain_to-before.ensures)
 
 pub rain_to-to-requires : goal.rain_to-to-requires
 rain_to-to-requires c = let w = c.loop-track.invariant.coming in
@@ -75,7 +75,7 @@ loop-track-smaller-then-t-gt0 c = let w = c.loop-track.invariant.coming in
     omega (arith, w.season, w.day.of.to, number_is _ _ _ c.further_on-t.ensures)
 
 -- the day is passed
-passed : (c : Joined-ahead-track) → Drawing c.args.s c.args.today c.args.waiting c.args.used.now c.args.limit c.args.start c.season_days-last.result c.loop-track.t c.loop-track.before c.loop-track.week (suc c.loop-track.t.number) c.if-ahead-track.track c.if-ahead-track.depths
+passed : (c : Joined-ahead-track) → Drawing c.args.s c.args.from.today c.args.from.waiting c.args.from.used.now c.args.from.limit c.args.start c.season_days-last.result c.loop-track.t c.loop-track.before c.loop-track.week (suc c.loop-track.t.number) c.if-ahead-track.track c.if-ahead-track.depths
 passed c = drawing_passed c.loop-track.invariant c.outlook_on-ahead.ensures c.pass_day-track.ensures
     (elim c.if-ahead-track.branch [ then-ahead-track+else-ahead-track-2 w ↦ inl (w.if-ahead-track.true, w.if-ahead-track-2.false, w.depths-is, w.track-is) | else-ahead-track w ↦ inr (w.if-ahead-track.false, w.depths-is, w.track-is) ])
 
