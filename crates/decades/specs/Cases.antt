@@ -3,8 +3,7 @@
 use Rattle.std.specs.Prelude.{List, [], ◌∷◌, ◌++◌, ℕ, replicate}
 use Rattle.season.specs.declared.Season.{Season}
 use Rattle.season.specs.SmallSheet.{small}
-use Rattle.decades.specs.Table.{numbers_of, row_count, tabled}
-use Rattle.decades.specs.declared.Tabled.{Tabled}
+use Rattle.decades.specs.Table.{numbers_of, row_count, tabled, Tabled}
 
 -- The seed onion of FAO's stage table, 275 days, from 20 February, which has these days, to 21 November: each end is the edge of a decade. Where
 -- February has 29 it ends on 20 November.

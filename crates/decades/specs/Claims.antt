@@ -2,9 +2,7 @@
 use Rattle.std.specs.Prelude.{◌≡◌, List, map, ℕ, ◌≤◌}
 use Rattle.season.specs.declared.Season.{Season}
 use Rattle.season.specs.Sheet.{Within, Valid}
-use Rattle.decades.specs.declared.Tabled.{Tabled}
-use Rattle.decades.specs.declared.Tabled.TheVariants.{Refused}
-use Rattle.decades.specs.Table.{row_count, tabled, numbers_of}
+use Rattle.decades.specs.Table.{Tabled, Refused, row_count, tabled, numbers_of}
 use Rattle.decades.specs.Cases.{onion, edges}
 
 pub record Claims : Type 0 where

@@ -1,12 +1,12 @@
 -- Document 01, 'Decade table'. A difference of natural numbers stops at 0.
-use Rattle.std.specs.Prelude.{Bool, cond, ◌&&◌, List, [], ◌∷◌, ◌++◌, ℕ, zero, suc, ◌+◌, ◌-◌, ◌*◌, leb, ltb, eqb, length, drop}
+use Rattle.std.specs.Prelude.{Bool, cond, ◌&&◌, List, [], ◌∷◌, ◌++◌, ℕ, zero, suc, ◌+◌, ◌-◌, ◌*◌, leb, ltb, eqb, length, drop, Result}
+use Rattle.verdict.specs.declared.Refusal.{Refusal}
+use Rattle.verdict.specs.Refusals.{by_result}
 use Rattle.season.specs.declared.Season.{Season}
 use Rattle.season.specs.Sheet.{season_days}
 use Rattle.season.specs.Day.{date_of, crop_need, rain_on}
 use Rattle.season.specs.Depths.{net_is, gross_of}
 use Rattle.decades.specs.declared.Row.{Row}
-use Rattle.decades.specs.declared.Tabled.{Tabled}
-use Rattle.decades.specs.declared.Tabled.TheVariants.{Rows, Refused}
 
 -- Days 1–10, 11–20 and 21–end of a calendar month.
 abbrev pub decade_of : ℕ → ℕ
@@ -50,6 +50,11 @@ row_count s = length (rows_to s (season_days s))
 abbrev pub table : Season → List ℕ
 table s = flat s.efficiency (rows_to s (season_days s))
 
+-- What the table answers: how many rows, or a refusal with its number and the number returned with it.
+pub data Tabled : Type 0 where
+  Rows : ℕ → Tabled
+  Refused : ℕ → ℕ → Tabled
+
 -- The answer and the lent buffer after it: refusal 15 where the buffer has fewer numbers than six a row; else the row count, the rows, and
 -- what stood beyond them.
 unfoldable pub tabled : Season → List ℕ → Tabled × List ℕ
@@ -60,3 +65,7 @@ tabled s out =
 abbrev pub numbers_of : Tabled → List ℕ
 numbers_of (Rows count) = 0 ∷ 0 ∷ count ∷ []
 numbers_of (Refused number value) = number ∷ value ∷ []
+
+-- What a result of the code says.
+abbrev pub tabled_in : Result ℕ Refusal → Tabled
+tabled_in = by_result Rows Refused

@@ -6,23 +6,17 @@ ghost use Rattle.std.proofs.lemmas.List.Edits.{sets};
 ghost use Rattle.season.specs.Sheet.{Valid};
 ghost use Rattle.season.specs.Rules.{rain_to};
 ghost use Rattle.season.specs.Carried.{OnDay};
-ghost use Rattle.decades.specs.Table.{decade_of, same_decade, six, row_count, table, tabled};
+ghost use Rattle.decades.specs.Table.{decade_of, same_decade, six, row_count, table, tabled, tabled_in};
 ghost use Rattle.decades.specs.OpenRow.{row_of, decade_end, days_alike};
 
 use season::{Net, Season, SeasonDay};
+use verdict::{Reason, Refusal};
 
 // The rows of the longest table.
 pub const MOST_ROWS: u32 = 29;
 
 // Its numbers: a buffer of so many has room for every table.
 pub const MOST_NUMBERS: usize = 6 * MOST_ROWS as usize;
-
-// How many rows the table has, or a refusal: its number, and the number returned with it.
-#[derive(Clone, Copy)]
-pub enum Tabled {
-    Rows(usize),
-    Refused(u32, usize),
-}
 
 // A row, but for net and gross, which follow from it.
 #[derive(Clone, Copy)]
@@ -37,10 +31,11 @@ struct Row {
 fn by_decade(day: u32, first: u32, second: u32, third: u32) -> u32
     ensures { result ≡ cond (leb day 10) first (cond (leb day 20) second third) }
 {
-    if day <= 10 {
-        return first;
+    match day {
+        ..=10 => first,
+        11..=20 => second,
+        _ => third,
     }
-    if day <= 20 { second } else { third }
 }
 
 fn decade_of(day: u32) -> u32
@@ -52,11 +47,7 @@ fn decade_of(day: u32) -> u32
 fn same_decade(a: SeasonDay, b: SeasonDay) -> bool
     ensures { result ≡ same_decade a.month (decade_of a.day) b.month (decade_of b.day) }
 {
-    if a.month == b.month {
-        decade_of(a.day) == decade_of(b.day)
-    } else {
-        false
-    }
+    a.month == b.month && decade_of(a.day) == decade_of(b.day)
 }
 
 // The decade of the year, three a month.
@@ -101,7 +92,7 @@ fn decade_end(day: u32) -> u32
 fn days_alike(t: SeasonDay) -> u32
     ensures { result ≡ days_alike t }
 {
-    season::min(t.left, season::saturating_sub(decade_end(t.day), t.day))
+    t.left.min(decade_end(t.day).saturating_sub(t.day))
 }
 
 // What is planned of the month's rain before a day.
@@ -136,14 +127,10 @@ fn put_row(out: &mut [u32], at: usize, efficiency: u32, row: Row)
     requires le_efficiency { (1 ≤ efficiency) × (efficiency ≤ 100) × (row.need ≤ 40000000) }
     ensures { out.new ≡ sets out.old at (six efficiency row) }
 {
-    let net = Net(season::saturating_sub(row.need, row.rain));
+    let net = Net(row.need.saturating_sub(row.rain));
     let gross = season::gross_of(efficiency, net).points();
     let numbers = [row.month, row.decade, row.need, row.rain, net.0, gross];
-    let mut i: usize = 0;
-    while i < 6 {
-        out[at + i] = numbers[i];
-        i += 1;
-    }
+    out[at..at + 6].copy_from_slice(&numbers);
 }
 
 // The rows, from the start of a buffer that has room for them: one pass over the days, by stretches of one month, stage and decade.
@@ -188,14 +175,17 @@ fn fill_rows(s: Season, out: &mut [u32])
 }
 
 // The decade table, six numbers a row, from the start of a lent buffer; refusal 15, before a number is written.
-pub fn table(s: Season, out: &mut [u32]) -> Tabled
+pub fn table(s: Season, out: &mut [u32]) -> Result<usize, Refusal>
     requires { Valid s }
-    ensures { (result, out.new) ≡ tabled s out.old }
+    ensures { (tabled_in result, out.new) ≡ tabled s out.old }
 {
     let count = row_count(s);
     if out.len() < count * 6 {
-        return Tabled::Refused(15, 0);
+        return Err(Refusal {
+            reason: Reason::BufferShort,
+            value: 0,
+        });
     }
     fill_rows(s, out);
-    Tabled::Rows(count)
+    Ok(count)
 }

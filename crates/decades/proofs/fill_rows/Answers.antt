@@ -21,17 +21,11 @@ day_after c =
 fewer : (c : Joined-last-gt0) → c.season_days-n.result - c.if-last-gt0.t.number < c.season_days-n.result - c.loop-out.t.number
 fewer c = omega (arith, c.if-n-last.false, number_is _ _ _ c.further_on-last.ensures, number_is _ _ _ (day_after c))
 
-pub season_days-n-requires : goal.season_days-n-requires
-season_days-n-requires c = c.requires.valid.ranges
+pub crop_need-need-requires-clause-on_day : goal.crop_need-need-requires-clause-on_day
+crop_need-need-requires-clause-on_day c = on_day _ _ 1 (first_day c.requires.valid) c.day_of-start.ensures
 
-pub day_of-start-requires : goal.day_of-start-requires
-day_of-start-requires c = record { valid = c.requires.valid; day_of = first_day c.requires.valid }
-
-pub crop_need-need-requires : goal.crop_need-need-requires
-crop_need-need-requires c = record { valid = c.requires.valid; on_day = on_day _ _ 1 (first_day c.requires.valid) c.day_of-start.ensures }
-
-pub rain_before-before-requires : goal.rain_before-before-requires
-rain_before-before-requires c = record { valid = c.requires.valid; on_day = on_day _ _ 1 (first_day c.requires.valid) c.day_of-start.ensures }
+pub rain_before-before-requires-clause-on_day : goal.rain_before-before-requires-clause-on_day
+rain_before-before-requires-clause-on_day c = on_day _ _ 1 (first_day c.requires.valid) c.day_of-start.ensures
 
 pub loop-out-init : goal.loop-out-init
 loop-out-init c = filling_start c.requires.valid c.season_days-n.ensures c.day_of-start.ensures c.crop_need-need.ensures c.rain_before-before.ensures c.requires.s_in_bounds

@@ -1,23 +1,22 @@
--- The six numbers are stored one by one.
-use mathlib.Core.Path.{refl, ◌∙◌}
+-- The six numbers are stored together.
+use Prim.Native.Nat.{ℕ, ◌+◌, ◌-◌, ◌≤◌}
+use mathlib.Core.Path.{◌≡◌, sym, ◌∙◌}
+use mathlib.Core.List.{List, append_assoc}
 use native.Mathlib.Omega.{arith}
+use lib.ListN.{length, take, drop}
+use borrow.Rule.Slice.PartMut.{put_mid}
+use Rattle.std.proofs.lemmas.List.{drop-drop}
+use Rattle.std.proofs.lemmas.List.Edits.{sets, sets-eq}
 use Rattle.decades.specs.Table.{six}
-use Rattle.season.proofs.Stores.{putting_length, putting_place, putting_more, putting_end}
 use Rattle.decades.proofs.put_row.Goals as goal
 
-pub loop-i-init : goal.loop-i-init
-loop-i-init c = record { few = omega arith; room = c.requires.at_in_bounds; stored = refl }
-
-pub bounds-out-at : goal.bounds-out-at
-bounds-out-at c = putting_place c.loop-i.invariant c.loop-i-test.true
-
-pub loop-i-preserved : goal.loop-i-preserved
-loop-i-preserved c = putting_more c.loop-i.invariant c.loop-i-test.true
-
-pub shape_of-out : goal.shape_of-out
-shape_of-out c = putting_length c.loop-i.invariant
+stored : (vs ys out : List ℕ) (at : ℕ) → at + length vs ≤ length out → ys ≡ vs → put_mid at (at + length vs - at) out ys ≡ sets out at vs
+stored vs ys out at h e = let k : at + length vs - at ≡ length vs = omega arith in
+    rw (k, e, sets-eq vs out at h, drop-drop) (sym (append_assoc (take at out) vs (drop (at + length vs) out)))
 
 pub returns : goal.returns
 unfolding six
-returns c = putting_end c.loop-i.invariant c.loop-i-test.false
-    ∙ rw (c.points-gross.ensures, c.gross_of.ensures, c.saturating_sub.ensures)
+returns c =
+    let a = c.args in
+    stored (six a.efficiency a.row) _ a.out.now a.at c.requires.at_in_bounds
+    (c.copy_from_slice.ensures.after ∙ rw (c.points-gross.ensures, c.gross_of.ensures, c.saturating_sub.ensures))

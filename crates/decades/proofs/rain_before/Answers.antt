@@ -6,5 +6,5 @@ use Rattle.decades.proofs.rain_before.Goals as goal
 pub overflow_sub-t : goal.overflow_sub-t
 overflow_sub-t c = omega (arith, day_small c.requires.valid c.requires.on_day)
 
-pub rain_to-requires : goal.rain_to-requires
-rain_to-requires c = record { valid = c.requires.valid; on_day = c.requires.on_day; d_bound = omega (arith, day_small c.requires.valid c.requires.on_day) }
+pub rain_to-requires-clause-d_bound : goal.rain_to-requires-clause-d_bound
+rain_to-requires-clause-d_bound c = omega (arith, day_small c.requires.valid c.requires.on_day)
