@@ -4,8 +4,7 @@ use mathlib.Core.Bool.{Bool, true, false, not, ◌&&◌, ◌||◌, cond}
 use Prim.Native.Nat.{ℕ}
 use Rattle.probes.specs.declared.Probe.{Probe}
 use Rattle.probes.specs.declared.Probe.TheVariants.{Water, Low, Silent}
-use Rattle.probes.specs.declared.Reading.TheVariants.{Content, Wrong}
-use Rattle.probes.specs.Contents.{is_content, content_of, pair_of, reading_of, is_wrong, is_nothing, wrong_content, no_content}
+use Rattle.probes.specs.Contents.{Content, Wrong, is_content, content_of, pair_of, reading_of, is_wrong, is_nothing, wrong_content, no_content}
 
 wrong_of_two : (p q : Bool) (v : ℕ) → is_wrong (cond (p && q) (Content v) Wrong) ≡ (not p || not q)
 wrong_of_two true true v = refl

@@ -2,9 +2,7 @@
 use Rattle.std.specs.Prelude.{ℕ, List, [], ◌∷◌}
 use Rattle.std.specs.Float.{binary32}
 use Rattle.std.specs.Float.Ieee.{of_bits}
-use Rattle.probes.specs.declared.Reading.{Reading}
-use Rattle.probes.specs.declared.Reading.TheVariants.{Content, Wrong, Nothing}
-use Rattle.probes.specs.Contents.{content_of}
+use Rattle.probes.specs.Contents.{Reading, Content, Wrong, Nothing, content_of}
 use Rattle.probes.specs.Depletion.{measured}
 
 -- The refusal's number, or 0 and the content.

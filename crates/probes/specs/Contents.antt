@@ -1,14 +1,20 @@
 -- Document 02, T-07: a probe's water content, by the exact value of its f32. That is, but for the sign, `num` / `den` in the logic's IEEE 754; a content
 -- with a sign is negative zero.
-use Rattle.std.specs.Prelude.{ℕ, ◌+◌, ◌*◌, ◌/◌, Bool, true, false, not, ◌&&◌, cond, pos, Float}
+use Rattle.std.specs.Prelude.{ℕ, ◌+◌, ◌*◌, ◌/◌, Bool, true, false, not, ◌&&◌, cond, pos, Float, Result, Ok, Err}
 use Rattle.std.specs.Float.{fin}
 use Rattle.std.specs.Float.Ieee.{le}
 use Rattle.std.specs.Float.Ieee.Positive.{num, den}
 use Rattle.probes.specs.declared.Probe.{Probe}
 use Rattle.probes.specs.declared.Probe.TheVariants.{Water, Low, Silent}
 use Rattle.probes.specs.declared.Pair.{Pair}
-use Rattle.probes.specs.declared.Reading.{Reading}
-use Rattle.probes.specs.declared.Reading.TheVariants.{Content, Wrong, Nothing}
+use Rattle.probes.specs.declared.NoContent.{NoContent}
+use Rattle.probes.specs.declared.NoContent.TheVariants as missing
+
+-- What the probes say: a content; one that is no number from 0 to 1 (refusal 18); none (refusal 19).
+pub data Reading : Type 0 where
+  Content : ℕ → Reading
+  Wrong : Reading
+  Nothing : Reading
 
 -- 0 and 1. Negative zero is equal to 0.
 abbrev pub none : Float
@@ -76,3 +82,11 @@ abbrev pub no_content : Probe → Bool
 no_content (Water x) = false
 no_content (Low u) = true
 no_content Silent = true
+
+-- ---- the type of the code
+
+-- What a result says.
+abbrev pub reading_in : Result ℕ NoContent → Reading
+reading_in (Ok v) = Content v
+reading_in (Err missing.Wrong) = Wrong
+reading_in (Err missing.Nothing) = Nothing

@@ -3,11 +3,11 @@
 #![tactic(auto)]
 
 ghost use Rattle.std.specs.Prelude.{◌≡◌, true, ◌≤◌};
-ghost use Rattle.probes.specs.Contents.{is_content, ten_thousandths, content_of, pair_of, single_of, reading_of};
+ghost use Rattle.probes.specs.Contents.{is_content, ten_thousandths, content_of, pair_of, single_of, reading_of, reading_in};
 ghost use Rattle.probes.specs.Depletion.{measured};
 
 // A probe answers a water content, its supply voltage where the battery is low, or nothing.
-#[derive(Clone, Copy)]
+#[derive(Clone, Copy, Debug, PartialEq)]
 pub enum Probe {
     Water(f32),
     Low(f32),
@@ -15,16 +15,15 @@ pub enum Probe {
 }
 
 // Both probes' contents.
-#[derive(Clone, Copy)]
+#[derive(Clone, Copy, Debug, PartialEq)]
 pub struct Pair {
     pub shallow: f32,
     pub deep: f32,
 }
 
-// What the probes say: a content; one that is no number from 0 to 1 (refusal 18); none (refusal 19).
-#[derive(Clone, Copy)]
-pub enum Reading {
-    Content(u32),
+// Why the probes say no content: one is no number from 0 to 1 (refusal 18); there is none (refusal 19).
+#[derive(Clone, Copy, Debug, PartialEq, Eq)]
+pub enum NoContent {
     Wrong,
     Nothing,
 }
@@ -37,7 +36,7 @@ fn ten_thousandths(x: f32) -> u32
     requires { is_content x ≡ true }
     ensures { result ≡ ten_thousandths x }
 {
-    let bits: u32 = f32::to_bits(x);
+    let bits = x.to_bits();
     let field = (bits & 0x7fff_ffff) >> 23;
     if field < 87 {
         return 0;
@@ -54,43 +53,40 @@ fn is_content(x: f32) -> bool
     0.0 <= x && x <= 1.0
 }
 
-fn content_of(x: f32) -> Reading
-    ensures { result ≡ content_of x }
+fn content_of(x: f32) -> Result<u32, NoContent>
+    ensures { reading_in result ≡ content_of x }
 {
     if is_content(x) {
-        return Reading::Content(ten_thousandths(x));
+        return Ok(ten_thousandths(x));
     }
-    Reading::Wrong
+    Err(NoContent::Wrong)
 }
 
 // ---- both probes
 
 // The floor of the mean of two contents.
-fn pair_of(p: Pair) -> Reading
-    ensures { result ≡ pair_of p }
+fn pair_of(p: Pair) -> Result<u32, NoContent>
+    ensures { reading_in result ≡ pair_of p }
 {
-    if is_content(p.shallow) {
-        if is_content(p.deep) {
-            return Reading::Content((ten_thousandths(p.shallow) + ten_thousandths(p.deep)) / 2);
-        }
+    if is_content(p.shallow) && is_content(p.deep) {
+        return Ok((ten_thousandths(p.shallow) + ten_thousandths(p.deep)) / 2);
     }
-    Reading::Wrong
+    Err(NoContent::Wrong)
 }
 
 // One probe. A low or a silent one has no content.
-fn single_of(p: Probe) -> Reading
-    ensures { result ≡ single_of p }
+fn single_of(p: Probe) -> Result<u32, NoContent>
+    ensures { reading_in result ≡ single_of p }
 {
     match p {
         Probe::Water(x) => content_of(x),
-        Probe::Low(_) => Reading::Nothing,
-        Probe::Silent => Reading::Nothing,
+        Probe::Low(_) | Probe::Silent => Err(NoContent::Nothing),
     }
 }
 
-// Both contents, or the one there is.
-pub fn reading_of(shallow: Probe, deep: Probe) -> Reading
-    ensures { result ≡ reading_of shallow deep }
+// Both contents, or the one there is. (A match of the pair was tried, and the proof did not close.)
+pub fn reading_of(shallow: Probe, deep: Probe) -> Result<u32, NoContent>
+    ensures { reading_in result ≡ reading_of shallow deep }
 {
     match shallow {
         Probe::Water(x) => match deep {
@@ -98,11 +94,9 @@ pub fn reading_of(shallow: Probe, deep: Probe) -> Reading
                 shallow: x,
                 deep: y,
             }),
-            Probe::Low(_) => single_of(shallow),
-            Probe::Silent => single_of(shallow),
+            Probe::Low(_) | Probe::Silent => content_of(x),
         },
-        Probe::Low(_) => single_of(deep),
-        Probe::Silent => single_of(deep),
+        Probe::Low(_) | Probe::Silent => single_of(deep),
     }
 }
 
@@ -113,5 +107,5 @@ pub fn measured_depletion(capacity: u32, content: u32, root: u32, total: u32) ->
     requires { (capacity ≤ 6000) × (root ≤ 300) }
     ensures { result ≡ measured capacity content root total }
 {
-    season::min(season::saturating_sub(capacity, content) * root / 10, total)
+    (capacity.saturating_sub(content) * root / 10).min(total)
 }

@@ -1,8 +1,7 @@
 -- `probes::content_of` meets its contract, by its test.
 use mathlib.Core.Path.{sym, ap, ◌∙◌}
 use mathlib.Core.Bool.{Bool, cond}
-use Rattle.probes.specs.declared.Reading.TheVariants.{Content, Wrong}
-use Rattle.probes.specs.Contents.{ten_thousandths, content_of}
+use Rattle.probes.specs.Contents.{Content, Wrong, ten_thousandths, content_of}
 use Rattle.probes.proofs.content_of.Goals as goal
 
 pub ten_thousandths-requires : goal.ten_thousandths-requires

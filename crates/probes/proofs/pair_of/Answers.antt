@@ -3,10 +3,10 @@ use mathlib.Core.Path.{◌≡◌, sym, ap, ◌∙◌}
 use mathlib.Core.Bool.{true}
 use Prim.Native.Nat.{ℕ, ◌+◌, ◌/◌}
 use native.Mathlib.Omega.{arith}
-use Rattle.probes.specs.declared.Reading.TheVariants.{Content}
-use Rattle.probes.specs.Contents.{is_content, ten_thousandths, pair_of}
+use Rattle.probes.specs.Contents.{Content, is_content, ten_thousandths, pair_of}
 use Rattle.probes.proofs.Bits.{at_most_ten_thousand}
 use Rattle.probes.proofs.pair_of.Goals as goal
+use Rattle.probes.proofs.pair_of.Goals.{else-is_content-via-then-is_content+else-is_content-2, else-is_content-via-else-is_content}
 
 pub ten_thousandths-requires : goal.ten_thousandths-requires
 ten_thousandths-requires c =
@@ -35,11 +35,11 @@ returns-then-is_content-2 c =
     ∙ ap (λ (v : ℕ). Content ((ten_thousandths p.shallow + v) / 2)) c.ten_thousandths-then-is_content-2.ensures
     ∙ sym (rw (shallow-is, deep_is))
 
-pub returns-else-is_content-2 : goal.returns-else-is_content-2
+pub returns : goal.returns
 unfolding pair_of
-returns-else-is_content-2 c = let a = sym c.is_content.ensures ∙ c.if-is_content.true in
-    sym (rw (a, sym c.is_content-then-is_content.ensures ∙ c.if-is_content-2.false))
-
-pub returns-else-is_content : goal.returns-else-is_content
-unfolding pair_of
-returns-else-is_content c = sym (rw (sym c.is_content.ensures ∙ c.if-is_content.false))
+returns c =
+    elim c.else-is_content.branch [
+      | else-is_content-via-then-is_content+else-is_content-2 w ↦
+          sym (rw (sym c.is_content.ensures ∙ w.if-is_content.true, sym w.is_content-then-is_content.ensures ∙ w.if-is_content-2.false))
+      | else-is_content-via-else-is_content w ↦ sym (rw (sym c.is_content.ensures ∙ w.if-is_content.false))
+    ]

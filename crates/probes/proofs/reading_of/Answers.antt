@@ -1,5 +1,6 @@
 -- `probes::reading_of` meets its contract, arm by arm.
 use mathlib.Core.Path.{sym, ◌∙◌}
+use mathlib.Core.Logic.{inl, inr}
 use Rattle.probes.specs.Contents.{reading_of}
 use Rattle.probes.proofs.reading_of.Goals as goal
 
@@ -9,16 +10,8 @@ returns-in-Water-deep c = c.pair_of.ensures ∙ sym (rw (c.in-Water.is, c.in-Wat
 
 pub returns-in-Low-deep : goal.returns-in-Low-deep
 unfolding reading_of
-returns-in-Low-deep c = c.single_of.ensures ∙ sym (rw (c.in-Water.is, c.in-Low-deep.is))
-
-pub returns-in-Silent-deep : goal.returns-in-Silent-deep
-unfolding reading_of
-returns-in-Silent-deep c = c.single_of-in-Silent-deep.ensures ∙ sym (rw (c.in-Water.is, c.in-Silent-deep.is))
+returns-in-Low-deep c = c.content_of.ensures ∙ sym (elim c.in-Low-deep.is [ inl low ↦ rw (c.in-Water.is, low.1) | inr silent ↦ rw (c.in-Water.is, silent) ])
 
 pub returns-in-Low : goal.returns-in-Low
 unfolding reading_of
-returns-in-Low c = c.single_of-in-Low.ensures ∙ sym (rw c.in-Low.is)
-
-pub returns-in-Silent : goal.returns-in-Silent
-unfolding reading_of
-returns-in-Silent c = c.single_of-in-Silent.ensures ∙ sym (rw c.in-Silent.is)
+returns-in-Low c = c.single_of.ensures ∙ sym (elim c.in-Low.is [ inl low ↦ rw low.1 | inr silent ↦ rw silent ])
