@@ -5,13 +5,11 @@ use mathlib.Core.List.{[], ◌∷◌}
 use Prim.Native.Nat.{ℕ, ◌≤◌}
 use lib.Dec.{ltb}
 use borrow.Author.Tests.{ltb-false}
-use Rattle.verdict.specs.declared.Verdict.TheVariants.{Accepted}
-use Rattle.verdict.specs.Refusals.{first_of}
+use Rattle.verdict.specs.Refusals.{Accepted, first_of}
 use Rattle.verdict.proofs.First.{accepted_fails}
 use Rattle.season.specs.declared.Season.{Season}
 use Rattle.season.specs.Sheet.{DayOf, season_days}
-use Rattle.probes.specs.declared.Reading.{Reading}
-use Rattle.probes.specs.Contents.{is_wrong, is_nothing}
+use Rattle.probes.specs.Contents.{Reading, is_wrong, is_nothing}
 use Rattle.measuring.specs.Probing.{capacity_outside, probe_refusals}
 
 or_false : (t u : Bool) → t || u ≡ false → u ≡ false
