@@ -7,28 +7,24 @@ use native.Mathlib.Omega.{arith}
 use lib.Dec.{eqb, ltb}
 use lib.ListN.{length}
 use borrow.Author.Tests.{ltb-false, eqb-true}
-use Rattle.verdict.specs.declared.Verdict.{Verdict}
-use Rattle.verdict.specs.declared.Verdict.TheVariants.{Accepted, Refused}
-use Rattle.verdict.specs.Refusals.{or_refused, first_of}
+use Rattle.verdict.specs.Refusals.{Verdict, Accepted, Refused, or_refused, first_of}
 use Rattle.verdict.proofs.First.{refused_accepted, accepted_fails, or_accepted}
 use Rattle.season.specs.declared.Season.{Season}
 use Rattle.season.specs.Sheet.{season_days}
 use Rattle.season.specs.Day.{AcceptedSeason}
 use Rattle.season.proofs.Bounds.{total_le}
 use Rattle.season.proofs.Whole.{by_order}
-use Rattle.sheet.specs.declared.Climate.{Climate}
-use Rattle.sheet.specs.Sheets.{climate_of, block_with}
+use Rattle.sheet.specs.Sheets.{Climate, climate_of, block_with}
 use Rattle.journal.specs.declared.Ledger.{Ledger}
-use Rattle.journal.specs.declared.Opening.{Opening}
-use Rattle.journal.specs.declared.Opening.TheVariants as found
+use Rattle.journal.specs.Opening.{Opening, opening}
+use Rattle.journal.specs.Opening as found
 use Rattle.journal.specs.Entries.{waiting}
-use Rattle.journal.specs.Opening.{opening}
 use Rattle.journal.proofs.Answers.{clean_within}
 use Rattle.planner.specs.Outlook.{days_left}
-use Rattle.bank.specs.declared.Judged.{Judged}
+use Rattle.bank.specs.declared.Kept.{Kept}
 use Rattle.bank.specs.declared.Start.{Start}
 use Rattle.bank.specs.Blocks.{length_of, start_of, part_of, outside, bank_wrong}
-use Rattle.bank.specs.Judging.{standing_on, judged_by, judged, Blocks, blocks_of, judged_at, first_refused, other_start, starts_differ, blocks_verdict, ReadClimate}
+use Rattle.bank.specs.Judging.{Judged, standing_on, judged_by, judged, Blocks, blocks_of, judged_at, first_refused, other_start, starts_differ, blocks_verdict, ReadClimate}
 use Rattle.bank.specs.Banks.{Bank, onward, progress, bank_of, banked_on, banked}
 use Rattle.bank.specs.Carried.{Counted, Noted, bank_in, AllReady, left}
 use Rattle.bank.proofs.Parts.{or_left, or_right}
@@ -151,15 +147,15 @@ module _ (limit day : ℕ) (season : ℕ → Season) (D D' W W' : ℕ → ℕ) (
       ap (onward old lengths depths k) (same_progress k (λ j h. d j (omega arith)) (λ j h. w j (omega arith)))
       ∙ rw (d k (omega arith), w k (omega arith))
 
-module _ {b : Blocks} {n day : ℕ} {depletions waitings : List ℕ} (w : Noted b n day depletions waitings) (limit : ℕ) where
-  pub noted_ready : AllReady (bank_of limit b) b.lengths n → AllReady (bank_in b.climate b.lengths b.sheets limit day depletions waitings) b.lengths n
+module _ {b : Blocks} {n day : ℕ} {kept : List Kept} (w : Noted b n day kept) (limit : ℕ) where
+  pub noted_ready : AllReady (bank_of limit b) b.lengths n → AllReady (bank_in b limit day kept) b.lengths n
   noted_ready r k h =
       let a = r k h in
-      record { valid = a.valid; day = rw w.first_day a.day; small = rw (w.depletion k h) a.small; room = rw w.first_day a.room }
+      record { valid = a.valid; day = rw w.first_day a.day; small = rw (w.each k h) a.small; room = rw w.first_day a.room }
 
-  pub noted_progress : (answers depths : List ℕ)
-      → progress (bank_in b.climate b.lengths b.sheets limit day depletions waitings) b.lengths answers depths n ≡ progress (bank_of limit b) b.lengths answers depths n
-  noted_progress answers depths = rw w.first_day (same_progress limit _ _ _ _ _ _ b.lengths answers depths n w.depletion w.waiting)
+  pub noted_progress : (answers depths : List ℕ) → progress (bank_in b limit day kept) b.lengths answers depths n ≡ progress (bank_of limit b) b.lengths answers depths n
+  noted_progress answers depths =
+      rw w.first_day (same_progress limit _ _ _ _ _ _ b.lengths answers depths n (λ k h. ap (λ (x : Kept). x.depletion) (w.each k h)) (λ k h. ap (λ (x : Kept). x.waiting) (w.each k h)))
 
 -- ---- the bank's answer
 
@@ -167,8 +163,8 @@ module _ (b : Blocks) (n limit : ℕ) (depths answers : List ℕ) where
   pub banked_refused : {number value : ℕ} → blocks_verdict (judged_at b) n ≡ Refused number value → (Refused number value, answers, depths) ≡ banked_on b n limit depths answers
   banked_refused e = rw e
 
-  pub banked_planned : {day : ℕ} {depletions waitings as' ds : List ℕ} → blocks_verdict (judged_at b) n ≡ Accepted → Noted b n day depletions waitings
-      → (as', ds) ≡ left (progress (bank_in b.climate b.lengths b.sheets limit day depletions waitings) b.lengths answers depths n)
+  pub banked_planned : {day : ℕ} {kept : List Kept} {as' ds : List ℕ} → blocks_verdict (judged_at b) n ≡ Accepted → Noted b n day kept
+      → (as', ds) ≡ left (progress (bank_in b limit day kept) b.lengths answers depths n)
       → (Accepted, as', ds) ≡ banked_on b n limit depths answers
   banked_planned {as' = as'} {ds = ds} e w i =
       let same : (as', ds) ≡ left (progress (bank_of limit b) b.lengths answers depths n) = i ∙ ap left (noted_progress w limit answers depths) in
@@ -176,9 +172,10 @@ module _ (b : Blocks) (n limit : ℕ) (depths answers : List ℕ) where
 
 -- Past the bank's own refusal and the climate's.
 module _ (climate : List ℕ) (blocks limit : ℕ) (lengths sheets areas depths answers : List ℕ) where
-  pub bank_wrong_lem : bank_wrong blocks limit lengths (length sheets) (length areas) (length depths) ≡ true → (Refused 22 0, answers, depths) ≡ banked climate blocks limit lengths sheets areas depths answers
-  unfolding banked or_refused
-  bank_wrong_lem e = rw e
+  pub wrong_refused : {t : Bool} {number value : ℕ} → t ≡ bank_wrong blocks limit lengths (length sheets) (length areas) (length depths)
+      → Refused number value ≡ or_refused Accepted t 22 0 → (Refused number value, answers, depths) ≡ banked climate blocks limit lengths sheets areas depths answers
+  unfolding banked
+  wrong_refused i e = rw (← i, ← e)
 
   module _ (e : bank_wrong blocks limit lengths (length sheets) (length areas) (length depths) ≡ false) (c : Climate) (is : c ≡ climate_of climate) where
     pub climate_refused : {number value : ℕ} → c.verdict ≡ Refused number value → (Refused number value, answers, depths) ≡ banked climate blocks limit lengths sheets areas depths answers
@@ -193,7 +190,6 @@ module _ (climate : List ℕ) (blocks limit : ℕ) (lengths sheets areas depths 
 pub record Laid (blocks limit : ℕ) (lengths : List ℕ) (sheets areas depths : ℕ) : Type 0 where
   pub some : 1 ≤ blocks
   pub counted : Counted blocks lengths
-  pub limit_some : 1 ≤ limit
   pub sheets_fit : start_of lengths 0 blocks ≤ sheets
   pub areas_fit : start_of lengths 1 blocks ≤ areas
   pub depths_fit : start_of lengths 2 blocks ≤ depths
@@ -209,7 +205,6 @@ laid blocks limit lengths sheets areas depths e =
     record {
       some = ltb-false blocks 1 (or_left (ltb blocks 1) (ltb 40 blocks) n);
       counted = record { few = ltb-false 40 blocks (or_right (ltb blocks 1) (ltb 40 blocks) n); three = ltb-false (length lengths) (3 * blocks) (or_left (ltb (length lengths) (3 * blocks)) _ b) };
-      limit_some = ltb-false limit 1 (or_left (ltb limit 1) (ltb 40 limit) (or_left (outside limit) _ a));
       sheets_fit = ltb-false sheets (start_of lengths 0 blocks) (or_left (ltb sheets (start_of lengths 0 blocks)) _ c);
       areas_fit = ltb-false areas (start_of lengths 1 blocks) (or_left (ltb areas (start_of lengths 1 blocks)) _ d);
       depths_fit = ltb-false depths (start_of lengths 2 blocks) (or_right (ltb areas (start_of lengths 1 blocks)) _ d);

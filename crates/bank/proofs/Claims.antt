@@ -5,9 +5,7 @@ use mathlib.Core.Bool.{Bool, true, false}
 use mathlib.Core.List.{List, map}
 use native.Mathlib.Omega.{arith}
 use lib.ListN.{length}
-use Rattle.verdict.specs.declared.Verdict.{Verdict}
-use Rattle.verdict.specs.declared.Verdict.TheVariants.{Accepted, Refused}
-use Rattle.verdict.specs.Refusals.{or_refused}
+use Rattle.verdict.specs.Refusals.{Verdict, Accepted, Refused, or_refused}
 use Rattle.verdict.proofs.First.{refused_accepted}
 use Rattle.leb128.specs.Groups.{encode, over_groups, over_in, group_count}
 use Rattle.leb128.specs.Forms.{decode, decode_from, below}

@@ -1,39 +1,32 @@
 -- Judging: one block by its sheet and its journal, then all of them from the first on.
 use Prim.Native.Nat.{ℕ, zero, suc, ◌+◌, ◌-◌, ◌≤◌, ◌<◌}
 use mathlib.Core.Path.{◌≡◌, refl, sym, ap, ◌∙◌}
-use mathlib.Core.Logic.{◌≢◌}
-use mathlib.Core.Bool.{Bool, true, false, ◌||◌}
+use mathlib.Core.Bool.{Bool, false, ◌||◌}
 use mathlib.Core.List.{List}
 use native.Mathlib.Omega.{arith}
 use native.Mathlib.Numerals.{add-one}
 use lib.Dec.{ltb}
 use lib.ListN.{length, get_or, take, drop, set, length-set}
 use lib.Seq.{get_or-set_same, get_or-set_other}
-use borrow.Author.Tests.{eq-eqb, ne_eqb}
 use Rattle.season.proofs.Whole.{by_order}
-use Rattle.verdict.specs.declared.Verdict.{Verdict}
-use Rattle.verdict.specs.declared.Verdict.TheVariants.{Accepted, Refused}
-use Rattle.verdict.specs.Refusals.{or_refused}
+use Rattle.std.specs.Prelude.{Option, Some, None, unwrap_or}
+use Rattle.std.specs.Option.{IsSome}
+use Rattle.verdict.specs.Refusals.{Verdict, Accepted, Refused, or_refused}
 use Rattle.verdict.proofs.First.{refused_accepted}
 use Rattle.season.specs.declared.Season.{Season}
 use Rattle.season.specs.Sheet.{season_days}
 use Rattle.season.specs.Day.{AcceptedSeason}
-use Rattle.sheet.specs.declared.Climate.{Climate}
-use Rattle.sheet.specs.declared.Sheet.{Sheet}
-use Rattle.sheet.specs.Sheets.{block_with, sheets_of}
+use Rattle.sheet.specs.Sheets.{Climate, Sheet, block_with, sheets_of}
 use Rattle.sheet.proofs.Accepted.{accepted_season}
 use Rattle.journal.specs.declared.Ledger.{Ledger}
-use Rattle.journal.specs.declared.Opening.{Opening}
-use Rattle.journal.specs.declared.Opening.TheVariants as found
+use Rattle.journal.specs.Opening.{Opening, opening}
+use Rattle.journal.specs.Opening as found
 use Rattle.journal.specs.Entries.{waiting}
-use Rattle.journal.specs.Opening.{opening}
-use Rattle.bank.specs.declared.Stand.{Stand}
 use Rattle.bank.specs.declared.Start.{Start}
-use Rattle.bank.specs.declared.Common.{Common}
-use Rattle.bank.specs.declared.Judged.{Judged}
+use Rattle.bank.specs.declared.Kept.{Kept}
 use Rattle.bank.specs.Blocks.{length_of, start_of, part_of}
-use Rattle.bank.specs.Judging.{no_standing, standing_on, judged_in, not_judged, judged, Blocks, judged_at, first_refused, other_start, starts_differ, blocks_verdict, ReadClimate}
-use Rattle.bank.specs.Carried.{with_start, Noted}
+use Rattle.bank.specs.Judging.{Stand, Judged, standing_on, judged_in, not_judged, judged, only_judged, Blocks, judged_at, first_refused, other_start, starts_differ, blocks_verdict, ReadClimate}
+use Rattle.bank.specs.Carried.{kept_of, nothing, Noted}
 use Rattle.bank.proofs.Parts.{start_next, part_within}
 
 -- ---- one block
@@ -47,23 +40,26 @@ module _ (s : Season) (area : List ℕ) (room : ℕ) (o : Opening) (is : o ≡ o
   unfolding standing_on
   stand_clean l n c e = rw (sym is ∙ c, e)
 
-  pub stand_torn : (l : Ledger) (place : ℕ) → o ≡ found.Torn l place → no_standing 10 place ≡ standing_on s room (opening s area)
-  unfolding standing_on
-  stand_torn l place c = rw (sym is ∙ c)
-
-  pub stand_refused : (number place : ℕ) → o ≡ found.Refused number place → no_standing number place ≡ standing_on s room (opening s area)
-  unfolding standing_on
-  stand_refused number place c = rw (sym is ∙ c)
-
 -- By what reading the sheet answered.
 module _ (c : Climate) (sheet area : List ℕ) (room : ℕ) (r : Sheet) (is : r ≡ block_with c sheet) where
-  pub judged_refused : (number value : ℕ) → r.verdict ≡ Refused number value → not_judged number value ≡ judged c sheet area room
+  pub judged_refused : {number value : ℕ} → r.verdict ≡ Refused number value → not_judged number value ≡ only_judged (judged c sheet area room)
   unfolding judged
-  judged_refused number value e = rw (← is, e)
+  judged_refused e = rw (← is, e)
 
-  pub judged_accepted : r.verdict ≡ Accepted → judged_in r.season (standing_on r.season room (opening r.season area)) ≡ judged c sheet area room
+  judged_accepted : r.verdict ≡ Accepted → judged_in r.season (standing_on r.season room (opening r.season area)) ≡ judged c sheet area room
   unfolding judged
   judged_accepted e = rw (← is, e)
+
+  -- By what its journal says.
+  module _ {t : Stand} (e : r.verdict ≡ Accepted) (q : t ≡ standing_on r.season room (opening r.season area)) where
+    stood_is : judged_in r.season t ≡ judged c sheet area room
+    stood_is = ap (judged_in r.season) q ∙ judged_accepted e
+
+    pub judged_fit : t.verdict ≡ Accepted → judged_in r.season (record { verdict = Accepted; day = t.day; depletion = t.depletion; waiting = t.waiting }) ≡ only_judged (judged c sheet area room)
+    judged_fit v = rw (← stood_is, v)
+
+    pub judged_unfit : {number value : ℕ} → t.verdict ≡ Refused number value → not_judged number value ≡ only_judged (judged c sheet area room)
+    judged_unfit v = rw (← stood_is, v)
 
   pub read_accepted : ReadClimate c → r.verdict ≡ Accepted → AcceptedSeason r.season
   unfolding sheets_of
@@ -71,35 +67,19 @@ module _ (c : Climate) (sheet area : List ℕ) (room : ℕ) (r : Sheet) (is : r 
       let same : r ≡ sheets_of w.0 sheet = is ∙ ap (λ (x : Climate). block_with x sheet) w.1 in
       rw same (accepted_season w.0 sheet (ap (λ (x : Sheet). x.verdict) (sym same) ∙ e))
 
+-- What is kept of a judged block has its verdict; of an accepted one all is kept.
+module _ (j : Judged) where
+  pub only_verdict : (only_judged j).verdict ≡ j.verdict
+  only_verdict = go j.verdict refl
+    where
+      go : (v : Verdict) → j.verdict ≡ v → (only_judged j).verdict ≡ j.verdict
+      go Accepted e = rw e
+      go (Refused number value) e = rw e
+
+  pub only_accepted : {q : Judged} → q ≡ only_judged j → q.verdict ≡ Accepted → q ≡ j
+  only_accepted e v = let z : j.verdict ≡ Accepted = sym only_verdict ∙ ap (λ (x : Judged). x.verdict) (sym e) ∙ v in e ∙ rw z
+
 -- ---- all of them
-
-or_true : (b : Bool) → (b || true) ≡ true
-or_true true = refl
-or_true false = refl
-
-or_false : (b : Bool) → (b || false) ≡ b
-or_false true = refl
-or_false false = refl
-
-same_start : (a : Start) → other_start a a ≡ false
-same_start a = rw (eq-eqb a.month a.month refl, eq-eqb a.first a.first refl, eq-eqb a.february a.february refl, eq-eqb a.day a.day refl)
-
-module _ (c : Common) (k : ℕ) (t : Start) where
-  pub with_first : k ≡ 0 → ◌≡◌ {A = Common} (record { start = t; differ = false }) (with_start c k t)
-  unfolding with_start
-  with_first e = rw (eq-eqb k 0 e)
-
-  pub with_later : (k ≢ 0) → with_start c k t ≡ record { start = c.start; differ = c.differ || other_start c.start t }
-  unfolding with_start
-  with_later h = rw (ne_eqb k 0 h)
-
-  pub with_other : (k ≢ 0) → other_start c.start t ≡ true → ◌≡◌ {A = Common} (record { start = c.start; differ = true }) (with_start c k t)
-  unfolding with_start
-  with_other h e = rw (ne_eqb k 0 h, e, or_true c.differ)
-
-  pub with_same : (k ≢ 0) → other_start c.start t ≡ false → c ≡ with_start c k t
-  unfolding with_start
-  with_same h e = rw (ne_eqb k 0 h, e, or_false c.differ)
 
 module _ (f : ℕ → Judged) where
   first_next : (k : ℕ) → first_refused f k ≡ Accepted → first_refused f (k + 1) ≡ (f k).verdict
@@ -131,64 +111,54 @@ module _ (f : ℕ → Judged) where
   unfolding starts_differ
   starts_next k = rw (add-one k)
 
+-- The first block's start, where one is judged.
+abbrev start_of_first : (ℕ → Judged) → ℕ → Option Start
+start_of_first f zero = None
+start_of_first f (suc k) = Some (f 0).start
+
+-- Block k is held against it, the first one against itself.
+held_against : (f : ℕ → Judged) (k : ℕ) → unwrap_or (start_of_first f k) (f k).start ≡ (f 0).start
+held_against f zero = refl
+held_against f (suc k) = refl
+
 -- The loop has come to block k: those before it are accepted.
-pub record Judging (b : Blocks) (n : ℕ) (first second : List ℕ) (depletions waitings : List ℕ) (common : Common) (sheet_at area-at k : ℕ) : Type 0 where
+pub record Judging (b : Blocks) (n : ℕ) (old kept : List Kept) (first : Option Start) (differ : Bool) (sheet_at area-at k : ℕ) : Type 0 where
   pub few : k ≤ n
   pub sheet : sheet_at ≡ start_of b.lengths 0 k
   pub area : area-at ≡ start_of b.lengths 1 k
   pub accepted : first_refused (judged_at b) k ≡ Accepted
-  pub start : 0 < k → common.start ≡ (judged_at b 0).start
-  pub differ : common.differ ≡ starts_differ (judged_at b) k
-  pub depletion : (j : ℕ) → j < k → get_or depletions j 0 ≡ (judged_at b j).depletion
-  pub waits : (j : ℕ) → j < k → get_or waitings j 0 ≡ (judged_at b j).waiting
-  pub depletions_size : length depletions ≡ length first
-  pub waitings_size : length waitings ≡ length second
+  pub start : first ≡ start_of_first (judged_at b) k
+  pub differs : differ ≡ starts_differ (judged_at b) k
+  pub each : (j : ℕ) → j < k → get_or kept j nothing ≡ kept_of (judged_at b j)
+  pub size : length kept ≡ length old
 
-pub judging_start : (b : Blocks) (n : ℕ) (first second : List ℕ) (common : Common) → common.differ ≡ false → Judging b n first second first second common 0 0 0
+pub judging_start : (b : Blocks) (n : ℕ) (old : List Kept) → Judging b n old old None false 0 0 0
 unfolding start_of first_refused starts_differ
-judging_start b n first second common e =
-    record {
-      few = omega arith;
-      sheet = refl;
-      area = refl;
-      accepted = refl;
-      start = λ h. absurd (omega arith);
-      differ = e;
-      depletion = λ j h. absurd (omega arith);
-      waits = λ j h. absurd (omega arith);
-      depletions_size = refl;
-      waitings_size = refl;
-    }
+judging_start b n old = record { few = omega arith; sheet = refl; area = refl; accepted = refl; start = refl; differs = refl; each = λ j h. absurd (omega arith); size = refl }
 
 -- What stands between two places is the block's part.
 pub part_is : (lengths : List ℕ) (column k : ℕ) (buffer : List ℕ) {at n : ℕ} → at ≡ start_of lengths column k → n ≡ length_of lengths column k
     → take (at + n - at) (drop at buffer) ≡ part_of lengths column buffer k
 part_is lengths column k buffer {at} {n} e i = let z : at + n - at ≡ n = omega arith in rw (z, e, i)
 
--- One number more is kept.
-kept_next : (f : ℕ → ℕ) (xs : List ℕ) (k x : ℕ) → k < length xs → ((j : ℕ) → j < k → get_or xs j 0 ≡ f j) → x ≡ f k → (j : ℕ) → j < k + 1 → get_or (set xs k x) j 0 ≡ f j
+-- One block more is kept.
+kept_next : (f : ℕ → Kept) (xs : List Kept) (k : ℕ) (x : Kept) → k < length xs → ((j : ℕ) → j < k → get_or xs j nothing ≡ f j) → x ≡ f k → (j : ℕ) → j < k + 1 → get_or (set xs k x) j nothing ≡ f j
 kept_next f xs k x h old e j i =
     by_order j k
-    (λ g. let z : j ≡ k = omega arith in rw z (get_or-set_same xs k x 0 h ∙ e))
-    (λ g. get_or-set_other xs k j x 0 (λ q. omega arith) ∙ old j g)
+    (λ g. let z : j ≡ k = omega arith in rw z (get_or-set_same xs k x nothing h ∙ e))
+    (λ g. get_or-set_other xs k j x nothing (λ q. omega arith) ∙ old j g)
 
-module _ {b : Blocks} {n : ℕ} {first second depletions waitings : List ℕ} {common : Common} {sheet_at area-at k : ℕ}
-    (w : Judging b n first second depletions waitings common sheet_at area-at k) where
+module _ {b : Blocks} {n : ℕ} {old kept : List Kept} {first : Option Start} {differ : Bool} {sheet_at area-at k : ℕ}
+    (w : Judging b n old kept first differ sheet_at area-at k) where
   pub sheet_within : {size : ℕ} → k < n → start_of b.lengths 0 n ≤ size → sheet_at + length_of b.lengths 0 k ≤ size
   sheet_within h i = rw w.sheet (part_within b.lengths 0 h i)
 
   pub area_within : {size : ℕ} → k < n → start_of b.lengths 1 n ≤ size → area-at + length_of b.lengths 1 k ≤ size
   area_within h i = rw w.area (part_within b.lengths 1 h i)
 
-  pub depletions_room : n ≤ length first → k < n → k < length depletions
-  depletions_room h i = omega (arith, w.depletions_size)
-
-  pub waitings_room : n ≤ length second → k < n → k < length waitings
-  waitings_room h i = omega (arith, w.waitings_size)
-
   -- The block that is judged is the k-th.
-  pub block_at : {j : Judged} {m i room : ℕ} → j ≡ judged b.climate (take (sheet_at + m - sheet_at) (drop sheet_at b.sheets)) (take (area-at + i - area-at) (drop area-at b.areas)) room
-      → m ≡ length_of b.lengths 0 k → i ≡ length_of b.lengths 1 k → room ≡ length_of b.lengths 2 k → j ≡ judged_at b k
+  pub block_at : {j : Judged} {m i room : ℕ} → j ≡ only_judged (judged b.climate (take (sheet_at + m - sheet_at) (drop sheet_at b.sheets)) (take (area-at + i - area-at) (drop area-at b.areas)) room)
+      → m ≡ length_of b.lengths 0 k → i ≡ length_of b.lengths 1 k → room ≡ length_of b.lengths 2 k → j ≡ only_judged (judged_at b k)
   block_at e m i r = e ∙ rw (part_is b.lengths 0 k b.sheets w.sheet m, part_is b.lengths 1 k b.areas w.area i, r)
 
   module _ {j : Judged} (is : j ≡ judged_at b k) where
@@ -200,51 +170,42 @@ module _ {b : Blocks} {n : ℕ} {first second depletions waitings : List ℕ} {c
     unfolding or_refused
     judging_refused {number} {value} h e = rw (refused_stays (judged_at b) (k + 1) n number value (omega arith) (verdict_next ∙ e))
 
-    common_next : {c : Common} → c ≡ with_start common k j.start → (c.start ≡ (judged_at b 0).start) × (c.differ ≡ starts_differ (judged_at b) (k + 1))
-    unfolding starts_differ
-    common_next {c} e = by_zero k refl
-      where
-        first_block : k ≡ 0 → (c.start ≡ (judged_at b 0).start) × (c.differ ≡ starts_differ (judged_at b) (k + 1))
-        first_block z =
-            let f : c ≡ record { start = j.start; differ = false } = e ∙ sym (with_first common k j.start z) in
-            let i : j ≡ judged_at b 0 = is ∙ ap (judged_at b) z in
-            let none : starts_differ (judged_at b) k ≡ false = ap (starts_differ (judged_at b)) z in
-            (rw (f, i), rw (f, starts_next (judged_at b) k, none, z) (sym (same_start (judged_at b 0).start)))
+    -- It is held against the first.
+    held_next : unwrap_or first j.start ≡ (judged_at b 0).start
+    held_next = rw (w.start, is) (held_against (judged_at b) k)
 
-        other_block : (k ≢ 0) → (c.start ≡ (judged_at b 0).start) × (c.differ ≡ starts_differ (judged_at b) (k + 1))
-        other_block h =
-            let s = w.start (omega arith) in
-            let f : c ≡ record { start = common.start; differ = common.differ || other_start common.start j.start } = e ∙ with_later common k j.start h in
-            (rw f s, rw (f, starts_next (judged_at b) k, ← w.differ, ← s, ← is))
-
-        by_zero : (i : ℕ) → k ≡ i → (c.start ≡ (judged_at b 0).start) × (c.differ ≡ starts_differ (judged_at b) (k + 1))
-        by_zero zero z = first_block z
-        by_zero (suc i) z = other_block (λ q. omega arith)
-
-    pub judging_next : {c : Common} {sheet-end area-end : ℕ} {ds ws : List ℕ} → n ≤ length first → n ≤ length second → k < n → j.verdict ≡ Accepted
+    pub judging_next : {start : Start} {other : Bool} {sheet-end area-end : ℕ} {ks : List Kept} {x : Kept} → n ≤ length old → k < n → j.verdict ≡ Accepted
         → sheet-end ≡ sheet_at + length_of b.lengths 0 k → area-end ≡ area-at + length_of b.lengths 1 k
-        → ds ≡ set depletions k j.depletion → ws ≡ set waitings k j.waiting → c ≡ with_start common k j.start
-        → Judging b n first second ds ws c sheet-end area-end (k + 1)
-    judging_next {c} r q h v s a d e g =
-        let m = common_next g in
+        → x ≡ kept_of j → ks ≡ set kept k x → start ≡ unwrap_or first j.start → other ≡ other_start start j.start
+        → Judging b n old ks (Some start) (differ || other) sheet-end area-end (k + 1)
+    judging_next {start} {x = x} r h v s a y d e g =
+        let f : start ≡ (judged_at b 0).start = e ∙ held_next in
         record {
           few = omega arith;
           sheet = s ∙ ap (λ i. i + length_of b.lengths 0 k) w.sheet ∙ sym (start_next b.lengths 0 k);
           area = a ∙ ap (λ i. i + length_of b.lengths 1 k) w.area ∙ sym (start_next b.lengths 1 k);
           accepted = verdict_next ∙ v;
-          start = λ i. m.0;
-          differ = m.1;
-          depletion = rw d (kept_next (λ i. (judged_at b i).depletion) depletions k j.depletion (depletions_room r h) w.depletion (ap (λ (x : Judged). x.depletion) is));
-          waits = rw e (kept_next (λ i. (judged_at b i).waiting) waitings k j.waiting (waitings_room q h) w.waits (ap (λ (x : Judged). x.waiting) is));
-          depletions_size = rw d (length-set depletions k j.depletion ∙ w.depletions_size);
-          waitings_size = rw e (length-set waitings k j.waiting ∙ w.waitings_size);
+          start = rw (add-one k, f);
+          differs = rw (starts_next (judged_at b) k, ← w.differs, g, f, is);
+          each = rw d (kept_next (λ i. kept_of (judged_at b i)) kept k x (omega (arith, w.size)) w.each (y ∙ ap kept_of is));
+          size = rw d (length-set kept k x ∙ w.size);
         }
 
   -- All blocks are judged.
-  pub judging_end : {v : Verdict} → 1 ≤ n → n ≤ k → v ≡ or_refused Accepted common.differ 23 0
-      → (v ≡ blocks_verdict (judged_at b) n) × (v ≡ Accepted → Noted b n common.start.day depletions waitings)
-  judging_end l h e =
-      let z : n ≡ k = omega (arith, w.few) in (
-        e ∙ rw (z, w.accepted, w.differ),
-        λ a. record { first_day = ap (λ (t : Start). t.day) (w.start (omega arith)); depletion = λ j i. w.depletion j (omega arith); waiting = λ j i. w.waits j (omega arith) },
-      )
+  pub judging_end : {v : Verdict} → n ≤ k → v ≡ or_refused Accepted differ 23 0 → v ≡ blocks_verdict (judged_at b) n
+  judging_end h e = let z : n ≡ k = omega (arith, w.few) in e ∙ rw (z, w.accepted, w.differs)
+
+  judged_some : 1 ≤ n → n ≤ k → first ≡ Some (judged_at b 0).start
+  judged_some l h = w.start ∙ go k (omega arith)
+    where
+      go : (i : ℕ) → 1 ≤ i → start_of_first (judged_at b) i ≡ Some (judged_at b 0).start
+      go zero m = absurd (omega arith)
+      go (suc i) m = refl
+
+  pub judging_some : 1 ≤ n → n ≤ k → IsSome first
+  judging_some l h = rw (judged_some l h)
+
+  pub judging_noted : {start : Start} → 1 ≤ n → n ≤ k → first ≡ Some start → Noted b n start.day kept
+  judging_noted {start} l h e =
+      let z : start ≡ (judged_at b 0).start = let q : Some start ≡ Some (judged_at b 0).start = sym e ∙ judged_some l h in cc in
+      record { first_day = ap (λ (t : Start). t.day) z; each = λ j i. w.each j (omega arith) }

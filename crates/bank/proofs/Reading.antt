@@ -10,12 +10,10 @@ use lib.ListN.{length, get_or, take, drop}
 use lib.Seq.{length-sets, take_at, drop_at, get_or-drop, get_or-take}
 use Rattle.season.specs.Depths.{net_is, gross_of}
 use Rattle.season.proofs.Whole.{by_order}
-use Rattle.planner.specs.declared.Planned.{Planned}
-use Rattle.planner.specs.declared.Planned.TheVariants.{Made, Refused}
+use Rattle.planner.specs.Answer.{Planned, Made, Refused, sum, answer_to}
 use Rattle.planner.specs.Choices.{Outlook, irrigated}
 use Rattle.planner.specs.Plan.{Plan, depths, refused, plan}
 use Rattle.planner.specs.Outlook.{outlook, days_left}
-use Rattle.planner.specs.Answer.{sum, answer_to}
 use Rattle.planner.specs.Bank.{watering, leaving, given, bank_plans}
 use Rattle.planner.proofs.Bank.{valve_taken}
 use Rattle.planner.proofs.Claims as planning

@@ -8,12 +8,10 @@ use lib.Seq.{take_at}
 use borrow.Author.Tests.{le-ltb}
 use Rattle.season.specs.declared.Season.{Season}
 use Rattle.season.specs.Sheet.{Valid, DayOf, longest_season}
-use Rattle.planner.specs.declared.Planned.{Planned}
-use Rattle.planner.specs.declared.Planned.TheVariants.{Made, Refused}
+use Rattle.planner.specs.Answer.{Planned, Made, Refused, answer_to}
 use Rattle.planner.specs.Choices.{Outlook}
 use Rattle.planner.specs.Plan.{Plan, depths, refused, plan}
 use Rattle.planner.specs.Outlook.{days_left}
-use Rattle.planner.specs.Answer.{answer_to}
 use Rattle.planner.specs.Bank.{given, outlook_left, answer_left}
 use Rattle.planner.proofs.Claims as plans
 use Rattle.bank.specs.Banks.{add_used}

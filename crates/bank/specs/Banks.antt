@@ -2,16 +2,13 @@
 -- their places.
 use Rattle.std.specs.Prelude.{ℕ, zero, suc, ◌+◌, ◌*◌, List, [], ◌∷◌, ◌++◌, length, take, replicate}
 use Rattle.std.proofs.lemmas.List.Edits.{sets}
-use Rattle.verdict.specs.declared.Verdict.{Verdict}
-use Rattle.verdict.specs.declared.Verdict.TheVariants.{Accepted, Refused}
-use Rattle.verdict.specs.Refusals.{or_refused}
+use Rattle.verdict.specs.Refusals.{Verdict, Accepted, Refused, or_refused}
 use Rattle.season.specs.declared.Season.{Season}
 use Rattle.sheet.specs.Sheets.{climate_of, block_with}
-use Rattle.planner.specs.declared.Planned.{Planned}
+use Rattle.planner.specs.Answer.{Planned, numbers_of, answer_to}
 use Rattle.planner.specs.Choices.{irrigated}
 use Rattle.planner.specs.Plan.{Plan}
 use Rattle.planner.specs.Outlook.{outlook, days_left}
-use Rattle.planner.specs.Answer.{numbers_of, answer_to}
 use Rattle.planner.specs.Bank.{Ask, given, plan_behind}
 use Rattle.bank.specs.Blocks.{start_of, part_of, bank_wrong}
 use Rattle.bank.specs.Judging.{Blocks, blocks_of, judged_at, before, blocks_verdict}

@@ -1,45 +1,43 @@
 -- What the code carries from block to block, and what planning is given.
-use Rattle.std.specs.Prelude.{ℕ, ◌*◌, ◌≤◌, ◌<◌, ◌≡◌, false, cond, ◌||◌, List, eqb, ltb, length, get_or}
+use Rattle.std.specs.Prelude.{ℕ, ◌*◌, ◌≤◌, ◌<◌, ◌≡◌, cond, List, ltb, length, get_or}
 use Rattle.season.specs.declared.Season.{Season}
 use Rattle.season.specs.Sheet.{Valid, DayOf, longest_season}
-use Rattle.sheet.specs.declared.Climate.{Climate}
 use Rattle.sheet.specs.Sheets.{block_with}
-use Rattle.planner.specs.declared.Planned.{Planned}
-use Rattle.planner.specs.declared.Planned.TheVariants.{Made, Refused}
+use Rattle.planner.specs.Answer.{Planned, Made, Refused}
 use Rattle.planner.specs.Plan.{Plan, plan}
 use Rattle.planner.specs.Outlook.{days_left}
 use Rattle.planner.specs.Bank.{outlook_left}
-use Rattle.bank.specs.declared.Start.{Start}
-use Rattle.bank.specs.declared.Common.{Common}
+use Rattle.bank.specs.declared.Kept.{Kept}
 use Rattle.bank.specs.Blocks.{length_of, part_of}
-use Rattle.bank.specs.Judging.{other_start, Blocks, judged_at}
+use Rattle.bank.specs.Judging.{Judged, Blocks, judged_at}
 use Rattle.bank.specs.Banks.{Bank, Progress}
-
--- One block's start more: the first has nothing to differ from.
-unfoldable pub with_start : Common → ℕ → Start → Common
-with_start c k t =
-    cond (eqb k 0) (record { start = t; differ = false }) (record { start = c.start; differ = c.differ || other_start c.start t })
 
 -- So many blocks have three lengths each.
 pub record Counted (blocks : ℕ) (lengths : List ℕ) : Type 0 where
   pub few : blocks ≤ 40
   pub three : 3 * blocks ≤ length lengths
 
--- What judging keeps of each block, and the open day.
-pub record Noted (b : Blocks) (n day : ℕ) (depletions waitings : List ℕ) : Type 0 where
+-- What judging keeps of a block, and where nothing is kept.
+abbrev pub kept_of : Judged → Kept
+kept_of j = record { depletion = j.depletion; waiting = j.waiting }
+
+abbrev pub nothing : Kept
+nothing = record { depletion = 0; waiting = 0 }
+
+-- What it keeps of each block, and the open day.
+pub record Noted (b : Blocks) (n day : ℕ) (kept : List Kept) : Type 0 where
   pub first_day : day ≡ (judged_at b 0).start.day
-  pub depletion : (k : ℕ) → k < n → get_or depletions k 0 ≡ (judged_at b k).depletion
-  pub waiting : (k : ℕ) → k < n → get_or waitings k 0 ≡ (judged_at b k).waiting
+  pub each : (k : ℕ) → k < n → get_or kept k nothing ≡ kept_of (judged_at b k)
 
 -- The bank that planning is given: the climate and the sheets again, and what was kept.
-abbrev pub bank_in : Climate → List ℕ → List ℕ → ℕ → ℕ → List ℕ → List ℕ → Bank
-bank_in climate lengths sheets limit today depletions waitings =
+abbrev pub bank_in : Blocks → ℕ → ℕ → List Kept → Bank
+bank_in b limit today kept =
     record {
       limit = limit;
       day = today;
-      season = λ k. (block_with climate (part_of lengths 0 sheets k)).season;
-      depletion = λ k. get_or depletions k 0;
-      waiting = λ k. get_or waitings k 0;
+      season = λ k. (block_with b.climate (part_of b.lengths 0 b.sheets k)).season;
+      depletion = λ k. (get_or kept k nothing).depletion;
+      waiting = λ k. (get_or kept k nothing).waiting;
     }
 
 -- A block can be planned.

@@ -1,7 +1,6 @@
 -- A bank of the small sheet (document 02, T-10): left, what the definition answers; right, what the request's rule gives, worked by hand.
 use Rattle.std.specs.Prelude.{ℕ, List, [], ◌∷◌, ◌++◌, replicate}
-use Rattle.verdict.specs.declared.Verdict.{Verdict}
-use Rattle.verdict.specs.Refusals.{numbers_of}
+use Rattle.verdict.specs.Refusals.{Verdict, numbers_of}
 use Rattle.sheet.specs.Numbers.{written}
 use Rattle.sheet.specs.Cases.{small_climate, small_block}
 use Rattle.bank.specs.Banks.{banked}

@@ -1,15 +1,14 @@
 -- What is proved of a bank's answer, on bytes. `plan_bank` answers `banked`, so that these speak of the program. `claims`, in proofs/Claims.antt, has a
 -- proof of each field.
 use Rattle.std.specs.Prelude.{ℕ, zero, suc, ◌-◌, ◌*◌, ◌≤◌, ◌<◌, ◌≡◌, ◌↔◌, ◌⊎◌, cond, List, [], ◌∷◌, map, eqb, length, get_or, take, drop}
-use Rattle.verdict.specs.declared.Verdict.TheVariants.{Accepted}
+use Rattle.verdict.specs.Refusals.{Accepted}
 use Rattle.season.specs.declared.Season.{Season}
 use Rattle.season.specs.Sheet.{season_days}
 use Rattle.season.specs.Depths.{net_is, gross_of}
 use Rattle.sheet.specs.Sheets.{sheets_of}
 use Rattle.journal.specs.declared.Ledger.{Ledger}
-use Rattle.journal.specs.declared.Opening.TheVariants.{Clean}
+use Rattle.journal.specs.Opening.{Clean, opening}
 use Rattle.journal.specs.Entries.{waiting}
-use Rattle.journal.specs.Opening.{opening}
 use Rattle.planner.specs.Choices.{Outlook, irrigated, Best, FirstLost, NoChoice}
 use Rattle.planner.specs.Plan.{Plan}
 use Rattle.planner.specs.Outlook.{outlook, days_left}

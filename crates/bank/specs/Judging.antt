@@ -1,23 +1,35 @@
 -- Document 02, T-10: what is judged of each block before anything is written: 1 to 7 by its sheet, then 8 to 11 and 15; and of all of them 23.
-use Rattle.std.specs.Prelude.{ℕ, zero, suc, ◌≡◌, Bool, false, not, ◌&&◌, ◌||◌, List, [], ◌∷◌, eqb, ltb}
-use Rattle.verdict.specs.declared.Verdict.{Verdict}
-use Rattle.verdict.specs.declared.Verdict.TheVariants.{Accepted, Refused}
-use Rattle.verdict.specs.Refusals.{or_refused, first_of}
+use Rattle.std.specs.Prelude.{ℕ, zero, suc, ◌≡◌, Bool, false, not, ◌&&◌, ◌||◌, List, [], ◌∷◌, eqb, ltb, Result}
+use Rattle.verdict.specs.declared.Refusal.{Refusal}
+use Rattle.verdict.specs.Refusals.{Verdict, Accepted, Refused, or_refused, first_of, by_result, verdict_in}
 use Rattle.season.specs.declared.Season.{Season}
 use Rattle.season.specs.Sheet.{season_days}
-use Rattle.sheet.specs.declared.Climate.{Climate}
-use Rattle.sheet.specs.Sheets.{climate_of, block_with}
-use Rattle.journal.specs.declared.Opening.{Opening}
-use Rattle.journal.specs.declared.Opening.TheVariants as found
+use Rattle.sheet.specs.Sheets.{Climate, climate_of, block_with, accepted_climate}
+use Rattle.journal.specs.Opening.{Opening, opening}
+use Rattle.journal.specs.Opening as found
 use Rattle.journal.specs.Entries.{waiting}
-use Rattle.journal.specs.Opening.{opening}
 use Rattle.planner.specs.Outlook.{days_left}
-use Rattle.bank.specs.declared.Stand.{Stand}
 use Rattle.bank.specs.declared.Start.{Start}
-use Rattle.bank.specs.declared.Judged.{Judged}
+use Rattle.bank.specs.declared.Blocks.{Blocks as CodeBlocks}
+use Rattle.bank.specs.declared.Stand.{Stand as CodeStand}
+use Rattle.bank.specs.declared.Judged.{Judged as CodeJudged}
 use Rattle.bank.specs.Blocks.{length_of, part_of}
 
 -- ---- one block
+
+-- What a block's journal says: a verdict, and its ledger's open day, depletion and waiting water, 0 where the journal is no clean one.
+pub record Stand : Type 0 where
+  pub verdict : Verdict
+  pub day : ℕ
+  pub depletion : ℕ
+  pub waiting : ℕ
+
+-- A block that is judged.
+pub record Judged : Type 0 where
+  pub verdict : Verdict
+  pub start : Start
+  pub depletion : ℕ
+  pub waiting : ℕ
 
 -- 8 to 11 and 15 of a journal that opens so, with room for so many depths; then what its ledger has for a plan.
 abbrev pub no_standing : ℕ → ℕ → Stand
@@ -95,3 +107,22 @@ blocks_verdict f n = or_refused (first_refused f n) (starts_differ f n) 23 0
 -- A climate as its sheet gives it.
 abbrev pub ReadClimate : Climate → Type 0
 ReadClimate c = (climate : List ℕ) × (c ≡ climate_of climate)
+
+-- ---- what the types of the code say
+
+abbrev pub blocks_in : CodeBlocks → Blocks
+blocks_in b = blocks_of (accepted_climate b.climate) b.lengths.now b.sheets.now b.areas.now
+
+abbrev pub stand_in : CodeStand → Stand
+stand_in t = record { verdict = verdict_in t.verdict; day = t.day; depletion = t.kept.depletion; waiting = t.kept.waiting }
+
+abbrev pub judging_in : Result CodeJudged Refusal → Judged
+judging_in = by_result (λ j. record { verdict = Accepted; start = j.start; depletion = j.kept.depletion; waiting = j.kept.waiting }) not_judged
+
+-- Of a block that is refused the code keeps the refusal alone.
+abbrev only_by : Verdict → Judged → Judged
+only_by Accepted j = j
+only_by (Refused number value) j = not_judged number value
+
+abbrev pub only_judged : Judged → Judged
+only_judged j = only_by j.verdict j

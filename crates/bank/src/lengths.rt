@@ -6,10 +6,7 @@ ghost use Rattle.bank.specs.Carried.{Counted};
 fn is_outside(n: u32) -> bool
     ensures { result ≡ outside n }
 {
-    if n < 1 {
-        return true;
-    }
-    40 < n
+    !(1..=40).contains(&n)
 }
 
 // The length of a block's part in a column.
@@ -27,19 +24,18 @@ fn lengths_pass(lengths: &[u32], column: usize, blocks: usize, size: usize) -> b
     ensures { result ≡ ltb size (start_of lengths.now column blocks) }
 {
     let mut left = size;
-    let mut k: usize = 0;
-    while k < blocks {
+    for k in 0..blocks {
         let length = part_length(lengths, column, k);
         if left < length {
             return true;
         }
         left -= length;
-        k += 1;
     }
     false
 }
 
 // Refusal 22.
+#[tactic(auto, unfolding(crate::specs::Blocks::bank_wrong))]
 pub fn is_wrong(
     blocks: u32,
     limit: u32,
@@ -50,21 +46,11 @@ pub fn is_wrong(
 ) -> bool
     ensures { result ≡ bank_wrong blocks limit lengths.now sheets areas depths }
 {
-    if is_outside(blocks) {
-        return true;
-    }
-    if is_outside(limit) {
-        return true;
-    }
     let count = blocks as usize;
-    if lengths.len() < 3 * count {
-        return true;
-    }
-    if lengths_pass(lengths, 0, count, sheets) {
-        return true;
-    }
-    if lengths_pass(lengths, 1, count, areas) {
-        return true;
-    }
-    lengths_pass(lengths, 2, count, depths)
+    is_outside(blocks)
+        || is_outside(limit)
+        || lengths.len() < 3 * count
+        || lengths_pass(lengths, 0, count, sheets)
+        || lengths_pass(lengths, 1, count, areas)
+        || lengths_pass(lengths, 2, count, depths)
 }

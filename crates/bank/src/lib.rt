@@ -9,7 +9,9 @@ mod planning;
 
 ghost use Rattle.std.specs.Prelude.{◌≡◌, ◌≤◌, ◌<◌, length};
 ghost use Rattle.bank.specs.Blocks.{start_of};
-ghost use Rattle.bank.specs.Judging.{blocks_of, ReadClimate};
+ghost use Rattle.verdict.specs.Refusals.{verdict_in};
+ghost use Rattle.sheet.specs.Sheets.{accepted_climate};
+ghost use Rattle.bank.specs.Judging.{blocks_in, ReadClimate};
 ghost use Rattle.bank.specs.Banks.{progress, banked_on, banked};
 ghost use Rattle.bank.specs.Carried.{Counted, bank_in, AllReady, left};
 
@@ -18,144 +20,108 @@ pub use judging::standing;
 use lengths::is_wrong;
 use planning::plan_blocks;
 use sheet::Climate;
-use verdict::Verdict;
+use verdict::{Reason, Refusal, refuse_if};
 
 // How many numbers the array of answers has: five for each of forty blocks.
 pub const ANSWERS: usize = 200;
 
-// What a block's journal says: the first of refusals 8 to 11 and 15 that applies; and its ledger's open day, depletion and waiting water, 0 where the
-// journal is no clean one.
+// Blocks that refusal 22 leaves: the climate that all have, how many they are, three lengths a block, and their sheets and journals.
 #[derive(Clone, Copy)]
-pub struct Stand {
-    pub verdict: Verdict,
-    pub day: u32,
+struct Blocks<'a> {
+    climate: Climate,
+    count: usize,
+    lengths: &'a [u32],
+    sheets: &'a [u8],
+    areas: &'a [u8],
+}
+
+// What a block's ledger has for its plan.
+#[derive(Clone, Copy)]
+pub struct Kept {
     pub depletion: u32,
     pub waiting: u32,
+}
+
+// What a block's journal says: the first of refusals 8 to 11 and 15 that applies; and its ledger's open day, depletion and waiting water, 0 where the
+// journal is no clean one. (The verdict stands beside them: `standing_on` says what the ledger has where 11 or 15 refuse, too.)
+#[derive(Clone, Copy)]
+pub struct Stand {
+    pub verdict: Result<(), Refusal>,
+    pub day: u32,
+    pub kept: Kept,
 }
 
 // What all blocks of a bank have in common: fields 1 and 2, February's days, and the open day.
-#[derive(Clone, Copy)]
-pub struct Start {
-    pub month: u32,
-    pub first: u32,
-    pub february: u32,
-    pub day: u32,
-}
-
-// A block that is judged.
-#[derive(Clone, Copy)]
-pub struct Judged {
-    pub verdict: Verdict,
-    pub start: Start,
-    pub depletion: u32,
-    pub waiting: u32,
-}
-
-// The first block's start, and whether another one's differs from it.
-#[derive(Clone, Copy)]
-struct Common {
-    start: Start,
-    differ: bool,
-}
-
-// All blocks, judged: the verdict, and the open day.
-#[derive(Clone, Copy)]
-struct Agreed {
-    verdict: Verdict,
+#[derive(Clone, Copy, PartialEq)]
+struct Start {
+    month: u32,
+    first: u32,
+    february: u32,
     day: u32,
+}
+
+// A block that is judged, and not refused.
+#[derive(Clone, Copy)]
+struct Judged {
+    start: Start,
+    kept: Kept,
 }
 
 // The counts of valves used start at 0. (The array of zeros stands in a function of its own: it is written out in every goal behind it.)
 fn plan_from_none(
-    climate: Climate,
-    blocks: usize,
+    b: Blocks<'_>,
     limit: u32,
-    lengths: &[u32],
-    sheets: &[u8],
     today: u32,
-    depletions: &[u32],
-    waitings: &[u32],
+    kept: &[Kept],
     depths: &mut [u32],
     answers: &mut [u32; ANSWERS],
 )
-    requires counted { Counted blocks lengths.now }
-    requires blocks_in_bounds { (start_of lengths.now 0 blocks ≤ length sheets.now) × (start_of lengths.now 2 blocks ≤ length depths.old) }
-    requires blocks_in_bounds_2 { (blocks ≤ length depletions.now) × (blocks ≤ length waitings.now) }
-    requires all_ready { AllReady (bank_in climate lengths.now sheets.now limit today depletions.now waitings.now) lengths.now blocks }
-    ensures { (answers.new, depths.new) ≡ left (progress (bank_in climate lengths.now sheets.now limit today depletions.now waitings.now) lengths.now answers.old depths.old blocks) }
+    requires counted { Counted b.count b.lengths.now }
+    requires parts_in_bounds { (start_of b.lengths.now 0 b.count ≤ length b.sheets.now) × (start_of b.lengths.now 2 b.count ≤ length depths.old) }
+    requires kept_in_bounds { b.count ≤ length kept.now }
+    requires all_ready { AllReady (bank_in (blocks_in b) limit today kept.now) b.lengths.now b.count }
+    ensures { (answers.new, depths.new) ≡ left (progress (bank_in (blocks_in b.entry) limit today kept.now) b.entry.lengths.now answers.old depths.old b.entry.count) }
 {
     let mut used = [0u32; season::LONGEST_SEASON];
-    plan_blocks(
-        climate, blocks, limit, lengths, sheets, today, depletions, waitings, &mut used, depths,
-        answers,
-    );
+    plan_blocks(b, limit, today, kept, &mut used, depths, answers);
 }
 
 // All blocks are judged, and then planned. What judging finds of each is kept for planning, which opens no journal.
 fn plan_judged(
-    climate: Climate,
-    blocks: usize,
+    b: Blocks<'_>,
     limit: u32,
-    lengths: &[u32],
-    sheets: &[u8],
-    areas: &[u8],
-    depletions: &mut [u32],
-    waitings: &mut [u32],
+    kept: &mut [Kept],
     depths: &mut [u32],
     answers: &mut [u32; ANSWERS],
-) -> Verdict
-    requires read_climate { ReadClimate climate }
-    requires le_blocks { (1 ≤ blocks) × (Counted blocks lengths.now) }
-    requires blocks_in_bounds { (start_of lengths.now 0 blocks ≤ length sheets.now) × (start_of lengths.now 1 blocks ≤ length areas.now) × (start_of lengths.now 2 blocks ≤ length depths.old) }
-    requires blocks_in_bounds_2 { (blocks ≤ length depletions.old) × (blocks ≤ length waitings.old) }
-    ensures { (result, answers.new, depths.new) ≡ banked_on (blocks_of climate lengths.now sheets.now areas.now) blocks limit depths.old answers.old }
+) -> Result<(), Refusal>
+    requires read_climate { ReadClimate (accepted_climate b.climate) }
+    requires le_count { (1 ≤ b.count) × (Counted b.count b.lengths.now) }
+    requires parts_in_bounds { (start_of b.lengths.now 0 b.count ≤ length b.sheets.now) × (start_of b.lengths.now 1 b.count ≤ length b.areas.now) × (start_of b.lengths.now 2 b.count ≤ length depths.old) }
+    requires kept_in_bounds { b.count ≤ length kept.old }
+    ensures { (verdict_in result, answers.new, depths.new) ≡ banked_on (blocks_in b.entry) b.entry.count limit depths.old answers.old }
 {
-    let agreed = judge_blocks(
-        climate, blocks, lengths, sheets, areas, depletions, waitings,
-    );
-    let verdict = agreed.verdict;
-    match verdict {
-        Verdict::Refused(number, value) => Verdict::Refused(number, value),
-        Verdict::Accepted => {
-            plan_from_none(
-                climate, blocks, limit, lengths, sheets, agreed.day, depletions, waitings, depths,
-                answers,
-            );
-            Verdict::Accepted
-        }
-    }
+    let today = judge_blocks(b, kept)?;
+    plan_from_none(b, limit, today, kept, depths, answers);
+    Ok(())
 }
 
 // Room for what is kept of each block.
 fn plan_read(
-    climate: Climate,
-    blocks: usize,
+    b: Blocks<'_>,
     limit: u32,
-    lengths: &[u32],
-    sheets: &[u8],
-    areas: &[u8],
     depths: &mut [u32],
     answers: &mut [u32; ANSWERS],
-) -> Verdict
-    requires read_climate { ReadClimate climate }
-    requires le_blocks { (1 ≤ blocks) × (Counted blocks lengths.now) }
-    requires blocks_in_bounds { (start_of lengths.now 0 blocks ≤ length sheets.now) × (start_of lengths.now 1 blocks ≤ length areas.now) × (start_of lengths.now 2 blocks ≤ length depths.old) }
-    ensures { (result, answers.new, depths.new) ≡ banked_on (blocks_of climate lengths.now sheets.now areas.now) blocks limit depths.old answers.old }
+) -> Result<(), Refusal>
+    requires read_climate { ReadClimate (accepted_climate b.climate) }
+    requires le_count { (1 ≤ b.count) × (Counted b.count b.lengths.now) }
+    requires parts_in_bounds { (start_of b.lengths.now 0 b.count ≤ length b.sheets.now) × (start_of b.lengths.now 1 b.count ≤ length b.areas.now) × (start_of b.lengths.now 2 b.count ≤ length depths.old) }
+    ensures { (verdict_in result, answers.new, depths.new) ≡ banked_on (blocks_in b.entry) b.entry.count limit depths.old answers.old }
 {
-    let mut depletions = [0u32; 40];
-    let mut waitings = [0u32; 40];
-    plan_judged(
-        climate,
-        blocks,
-        limit,
-        lengths,
-        sheets,
-        areas,
-        &mut depletions,
-        &mut waitings,
-        depths,
-        answers,
-    )
+    let mut kept = [Kept {
+        depletion: 0,
+        waiting: 0,
+    }; 40];
+    plan_judged(b, limit, &mut kept, depths, answers)
 }
 
 // The bank: a verdict on all, five numbers a block in `answers`, and each plan's depths from the start of the block's part. Refusals 22; 1 to 4 of the
@@ -169,32 +135,25 @@ pub fn plan_bank(
     areas: &[u8],
     depths: &mut [u32],
     answers: &mut [u32; ANSWERS],
-) -> Verdict
-    ensures { (result, answers.new, depths.new) ≡ banked climate.now blocks limit lengths.now sheets.now areas.now depths.old answers.old }
+) -> Result<(), Refusal>
+    ensures { (verdict_in result, answers.new, depths.new) ≡ banked climate.now blocks limit lengths.now sheets.now areas.now depths.old answers.old }
 {
-    if is_wrong(
+    let wrong = is_wrong(
         blocks,
         limit,
         lengths,
         sheets.len(),
         areas.len(),
         depths.len(),
-    ) {
-        return Verdict::Refused(22, 0);
-    }
-    let read = sheet::read_climate(climate);
-    let verdict = read.verdict;
-    match verdict {
-        Verdict::Refused(number, value) => Verdict::Refused(number, value),
-        Verdict::Accepted => plan_read(
-            read,
-            blocks as usize,
-            limit,
-            lengths,
-            sheets,
-            areas,
-            depths,
-            answers,
-        ),
-    }
+    );
+    refuse_if(wrong, Reason::BankWrong, 0)?;
+    let climate = sheet::read_climate(climate)?;
+    let b = Blocks {
+        climate,
+        count: blocks as usize,
+        lengths,
+        sheets,
+        areas,
+    };
+    plan_read(b, limit, depths, answers)
 }

@@ -4,17 +4,18 @@ ghost use Rattle.std.proofs.lemmas.List.Edits.{sets};
 ghost use Rattle.season.specs.Sheet.{Valid, DayOf, longest_season};
 ghost use Rattle.planner.specs.Choices.{irrigated};
 ghost use Rattle.planner.specs.Outlook.{days_left};
-ghost use Rattle.planner.specs.Answer.{answer_to};
+ghost use Rattle.planner.specs.Answer.{answer_to, planned_in};
 ghost use Rattle.planner.specs.Bank.{given};
 ghost use Rattle.bank.specs.Blocks.{start_of};
+ghost use Rattle.bank.specs.Judging.{blocks_in};
 ghost use Rattle.bank.specs.Banks.{five, progress, add_used};
 ghost use Rattle.bank.specs.Carried.{Counted, bank_in, AllReady, left, plan_left, days_taken, counts_seen, Counts, SmallDay};
 
-use crate::ANSWERS;
 use crate::lengths::part_length;
-use planner::Planned;
+use crate::{ANSWERS, Blocks, Kept};
+use planner::Totals;
 use season::Season;
-use sheet::Climate;
+use verdict::Refusal;
 
 // How many valves a depth takes.
 fn valves_of(depth: u32) -> u32
@@ -23,26 +24,25 @@ fn valves_of(depth: u32) -> u32
     if 0 < depth { 1 } else { 0 }
 }
 
-// Counts one valve more on each day that a plan waters. (Every count is stored, so that the loop goes four days at a time.)
+// Counts one valve more on each day that a plan waters. (Every count is stored, so that the loop goes four days at a time. It goes by the depths' index: for
+// `used.iter_mut().zip(depths)` nothing says what the zip leaves in `used`.)
 fn add_used(used: &mut [u32], depths: &[u32])
     requires counts { Counts used.old }
     requires depths_len_bound { length depths.now ≤ longest_season }
     ensures { used.new ≡ add_used used.old depths.now }
 {
-    let mut i: usize = 0;
-    while i < depths.len() {
-        used[i] += valves_of(depths[i]);
-        i += 1;
+    for (i, d) in depths.iter().enumerate() {
+        used[i] += valves_of(*d);
     }
 }
 
 // How many days of its part a block takes valves from: none where it is refused.
-fn days_taken(planned: Planned, days: usize) -> usize
-    ensures { result ≡ days_taken planned days }
+fn days_taken(planned: Result<Totals, Refusal>, days: usize) -> usize
+    ensures { result ≡ days_taken (planned_in planned) days }
 {
     match planned {
-        Planned::Made(_, _, _) => days,
-        Planned::Refused(_, _) => 0,
+        Ok(_) => days,
+        Err(_) => 0,
     }
 }
 
@@ -57,23 +57,30 @@ fn counts_seen(k: usize, limit: u32, size: usize) -> usize
 fn plan_block(
     s: Season,
     today: u32,
-    depletion: u32,
-    waiting: u32,
+    kept: Kept,
     limit: u32,
     seen: usize,
     used: &mut [u32],
     depths: &mut [u32],
-) -> Planned
+) -> Result<Totals, Refusal>
     requires valid { Valid s }
     requires day_of { DayOf s today }
-    requires depletion_bound { depletion ≤ 120000 }
+    requires depletion_bound { kept.depletion ≤ 120000 }
     requires today_in_bounds { days_left s today ≤ length depths.old }
     requires counts { Counts used.old }
     requires seen_le_longest_season { seen ≤ longest_season }
-    ensures { ((result, depths.new) ≡ answer_to s.efficiency depths.old (plan_left s today depletion waiting (take seen used.old) limit))
-        × (used.new ≡ add_used used.old (given (plan_left s today depletion waiting (take seen used.old) limit))) }
+    ensures { ((planned_in result, depths.new) ≡ answer_to s.efficiency depths.old (plan_left s today kept.depletion kept.waiting (take seen used.old) limit))
+        × (used.new ≡ add_used used.old (given (plan_left s today kept.depletion kept.waiting (take seen used.old) limit))) }
 {
-    let planned = planner::plan_left(s, today, depletion, waiting, &used[..seen], limit, depths);
+    let planned = planner::plan_left(
+        s,
+        today,
+        kept.depletion,
+        kept.waiting,
+        &used[..seen],
+        limit,
+        depths,
+    );
     let days = (season::season_days(s) + 1 - today) as usize;
     let count = days_taken(planned, days);
     add_used(used, &depths[..count]);
@@ -93,52 +100,62 @@ fn put_five(answers: &mut [u32; ANSWERS], at: usize, a: u32, b: u32, c: u32, d: 
 }
 
 // A block's answer.
-fn put_answer(answers: &mut [u32; ANSWERS], at: usize, planned: Planned)
+fn put_answer(answers: &mut [u32; ANSWERS], at: usize, planned: Result<Totals, Refusal>)
     requires at_bound { at ≤ 195 }
-    requires small_day { SmallDay planned }
-    ensures { answers.new ≡ sets answers.old at (five planned) }
+    requires small_day { SmallDay (planned_in planned) }
+    ensures { answers.new ≡ sets answers.old at (five (planned_in planned)) }
 {
     match planned {
-        Planned::Made(days, net, gross) => put_five(answers, at, 0, 0, days, net.0, gross.points()),
-        Planned::Refused(number, value) => put_five(answers, at, number, value as u32, 0, 0, 0),
+        Ok(totals) => put_five(
+            answers,
+            at,
+            0,
+            0,
+            totals.waterings,
+            totals.net.0,
+            totals.gross.points(),
+        ),
+        Err(refusal) => put_five(
+            answers,
+            at,
+            refusal.reason.number(),
+            refusal.value as u32,
+            0,
+            0,
+            0,
+        ),
     }
 }
 
 // All blocks, in the order given: each sheet is read again, each plan's answer and depths are put in their places.
 pub fn plan_blocks(
-    climate: Climate,
-    blocks: usize,
+    b: Blocks<'_>,
     limit: u32,
-    lengths: &[u32],
-    sheets: &[u8],
     today: u32,
-    depletions: &[u32],
-    waitings: &[u32],
+    kept: &[Kept],
     used: &mut [u32],
     depths: &mut [u32],
     answers: &mut [u32; ANSWERS],
 )
-    requires counted { Counted blocks lengths.now }
-    requires blocks_in_bounds { (start_of lengths.now 0 blocks ≤ length sheets.now) × (start_of lengths.now 2 blocks ≤ length depths.old) }
-    requires blocks_in_bounds_2 { (blocks ≤ length depletions.now) × (blocks ≤ length waitings.now) }
-    requires all_ready { AllReady (bank_in climate lengths.now sheets.now limit today depletions.now waitings.now) lengths.now blocks }
+    requires counted { Counted b.count b.lengths.now }
+    requires parts_in_bounds { (start_of b.lengths.now 0 b.count ≤ length b.sheets.now) × (start_of b.lengths.now 2 b.count ≤ length depths.old) }
+    requires kept_in_bounds { b.count ≤ length kept.now }
+    requires all_ready { AllReady (bank_in (blocks_in b) limit today kept.now) b.lengths.now b.count }
     requires used_value { used.old ≡ replicate longest_season 0 }
-    ensures { (answers.new, depths.new) ≡ left (progress (bank_in climate lengths.now sheets.now limit today depletions.now waitings.now) lengths.now answers.old depths.old blocks) }
+    ensures { (answers.new, depths.new) ≡ left (progress (bank_in (blocks_in b.entry) limit today kept.now) b.entry.lengths.now answers.old depths.old b.entry.count) }
 {
     let mut sheet_at: usize = 0;
     let mut at: usize = 0;
-    let mut k: usize = 0;
-    while k < blocks {
-        let sheet_end = sheet_at + part_length(lengths, 0, k);
-        let end = at + part_length(lengths, 2, k);
-        let read = sheet::read_block(climate, &sheets[sheet_at..sheet_end]);
-        let season = read.season;
+    for k in 0..b.count {
+        let sheet_end = sheet_at + part_length(b.lengths, 0, k);
+        let end = at + part_length(b.lengths, 2, k);
+        // Judging has read it: only an accepted sheet comes here.
+        let season = sheet::read_block(b.climate, &b.sheets[sheet_at..sheet_end]).unwrap();
         let seen = counts_seen(k, limit, used.len());
         let planned = plan_block(
             season,
             today,
-            depletions[k],
-            waitings[k],
+            kept[k],
             limit,
             seen,
             used,
@@ -147,6 +164,5 @@ pub fn plan_blocks(
         put_answer(answers, 5 * k, planned);
         sheet_at = sheet_end;
         at = end;
-        k += 1;
     }
 }

@@ -1,14 +1,23 @@
--- By what reading the sheet answered.
-use mathlib.Core.Path.{ap, ◌∙◌}
-use Rattle.bank.specs.Judging.{judged_in}
-use Rattle.bank.proofs.Judges.{judged_refused, judged_accepted, read_accepted}
+-- By what reading the sheet answered, and what its journal says.
+use mathlib.Core.Path.{refl, sym, ap, ◌∙◌}
+use Rattle.verdict.specs.Refusals.{verdict_in}
+use Rattle.verdict.proofs.First.{handed_on}
+use Rattle.sheet.specs.Sheets.{accepted_climate, sheet_in}
+use Rattle.bank.proofs.Judges.{judged_refused, judged_fit, judged_unfit, read_accepted}
 use Rattle.bank.proofs.judging.judge_block.Goals as goal
 
-pub standing-requires : goal.standing-requires
-standing-requires c = read_accepted c.args.climate c.args.sheet.now c.args.area.now c.args.room c.read_block-read.result c.read_block-read.ensures c.requires c.in-Accepted.is
+pub standing-stand-requires : goal.standing-stand-requires
+standing-stand-requires c = read_accepted (accepted_climate c.args.climate) c.args.sheet.now c.args.area.now c.args.room _ (sym (ap sheet_in c.in_ok-season.was) ∙ c.read_block.ensures) c.requires refl
 
-pub returns-in-Refused : goal.returns-in-Refused
-returns-in-Refused c = c.not_judged.ensures ∙ judged_refused c.args.climate c.args.sheet.now c.args.area.now c.args.room c.read_block-read.result c.read_block-read.ensures _ _ c.in-Refused.is
+pub returns : goal.returns
+returns c = judged_fit (accepted_climate c.args.climate) c.args.sheet.now c.args.area.now c.args.room _ (sym (ap sheet_in c.in_ok-season.was) ∙ c.read_block.ensures) refl c.standing-stand.ensures (ap verdict_in c.in_ok-stand.was)
 
-pub returns-in-Accepted : goal.returns-in-Accepted
-returns-in-Accepted c = c.judged_in.ensures ∙ ap (judged_in c.read_block-read.result.season) c.standing.ensures ∙ judged_accepted c.args.climate c.args.sheet.now c.args.area.now c.args.room c.read_block-read.result c.read_block-read.ensures c.in-Accepted.is
+pub returns-in_err-stand : goal.returns-in_err-stand
+returns-in_err-stand c =
+    rw (handed_on _ _ c.from_residual-in_err-stand.ensures.1)
+    (judged_unfit (accepted_climate c.args.climate) c.args.sheet.now c.args.area.now c.args.room _ (sym (ap sheet_in c.in_ok-season.was) ∙ c.read_block.ensures) refl c.standing-stand.ensures (ap verdict_in c.in_err-stand.was))
+
+pub returns-in_err-season : goal.returns-in_err-season
+returns-in_err-season c =
+    rw (handed_on _ _ c.from_residual.ensures.1)
+    (judged_refused (accepted_climate c.args.climate) c.args.sheet.now c.args.area.now c.args.room _ (sym (ap sheet_in c.in_err-season.was) ∙ c.read_block.ensures) refl)

@@ -1,21 +1,27 @@
 -- By what the opening found; a clean journal's ledger is within its ranges.
-use mathlib.Core.Path.{◌∙◌}
+use mathlib.Core.Path.{refl, sym, ap, ◌∙◌}
 use native.Mathlib.Omega.{arith}
+use Rattle.verdict.proofs.First.{said}
 use Rattle.journal.proofs.Answers.{clean_within}
-use Rattle.bank.proofs.Judges.{stand_clean, stand_torn, stand_refused}
+use Rattle.journal.proofs.Found.{clean_found, unclean_found}
+use Rattle.bank.specs.Judging.{no_standing, standing_on}
+use Rattle.bank.proofs.Judges.{stand_clean}
 use Rattle.bank.proofs.judging.standing.Goals as goal
 
 pub overflow_sub-left : goal.overflow_sub-left
-overflow_sub-left c = omega (arith, c.season_days-days.ensures, (clean_within c.args.s c.args.area.now c.requires c.find.result _ c.find.ensures c.in-Clean.is).to)
+overflow_sub-left c = omega (arith, c.season_days-days.ensures, (clean_within c.args.s c.args.area.now c.requires _ _ c.find.ensures (clean_found _ _ (sym c.clean.ensures ∙ c.in-Ok.is))).to)
 
 pub overflow_add-result : goal.overflow_add-result
-overflow_add-result c = record { fits = omega (arith, (clean_within c.args.s c.args.area.now c.requires c.find.result _ c.find.ensures c.in-Clean.is).waits) }
+overflow_add-result c = record { fits = omega (arith, (clean_within c.args.s c.args.area.now c.requires _ _ c.find.ensures (clean_found _ _ (sym c.clean.ensures ∙ c.in-Ok.is))).waits) }
 
-pub returns-in-Clean : goal.returns-in-Clean
-returns-in-Clean c = rw (c.or_refused-verdict.ensures, c.or_refused.ensures) (stand_clean c.args.s c.args.area.now c.args.room c.find.result c.find.ensures _ _ c.in-Clean.is c.season_days-days.ensures)
+pub returns-in-Ok : goal.returns-in-Ok
+returns-in-Ok c =
+    rw (said _ _ _ _ _ c.or_refused-verdict.ensures, said _ _ _ _ _ c.refuse_if.ensures)
+    (stand_clean c.args.s c.args.area.now c.args.room _ c.find.ensures _ _ (clean_found _ _ (sym c.clean.ensures ∙ c.in-Ok.is)) c.season_days-days.ensures)
 
-pub returns-in-Torn : goal.returns-in-Torn
-returns-in-Torn c = c.no_standing.ensures ∙ stand_torn c.args.s c.args.area.now c.args.room c.find.result c.find.ensures _ _ c.in-Torn.is
-
-pub returns-in-Refused : goal.returns-in-Refused
-returns-in-Refused c = c.no_standing-in-Refused.ensures ∙ stand_refused c.args.s c.args.area.now c.args.room c.find.result c.find.ensures _ _ c.in-Refused.is
+pub returns-in-Err : goal.returns-in-Err
+unfolding standing_on
+returns-in-Err c =
+    c.no_standing.ensures
+    ∙ sym (ap (standing_on c.args.s c.args.room) (sym c.find.ensures)
+    ∙ unclean_found (standing_on c.args.s c.args.room) no_standing (λ l place. refl) (λ number place. refl) _ _ (sym c.clean.ensures ∙ c.in-Err.is))

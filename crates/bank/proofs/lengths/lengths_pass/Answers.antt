@@ -17,12 +17,6 @@ part_length-length-requires c = length_read c.requires.counted c.requires.column
 pub returns-then-left-length : goal.returns-then-left-length
 returns-then-left-length c = sym (lt-ltb c.args.size (start_of c.args.lengths.now c.args.column c.args.blocks) (omega (arith, c.part_length-length.ensures, c.loop-k.invariant.1, c.if-left-length.true, start_next c.args.lengths.now c.args.column c.loop-k.k, start_grows c.args.lengths.now c.args.column (c.loop-k.k + 1) c.args.blocks (omega (arith, c.loop-k-test.true)))))
 
-pub overflow_add-k : goal.overflow_add-k
-overflow_add-k c = omega arith
-
-pub loop-k-smaller : goal.loop-k-smaller
-loop-k-smaller c = omega arith
-
 pub loop-k-preserved : goal.loop-k-preserved
 loop-k-preserved c = (omega arith, omega (arith, c.part_length-length.ensures, c.loop-k.invariant.1, c.if-left-length.false, start_next c.args.lengths.now c.args.column c.loop-k.k))
 
