@@ -6,9 +6,7 @@ use native.Mathlib.Omega.{arith}
 use lib.Dec.{ltb}
 use lib.ListN.{length}
 use borrow.Author.Tests.{le-ltb}
-use Rattle.verdict.specs.declared.Verdict.{Verdict}
-use Rattle.verdict.specs.declared.Verdict.TheVariants.{Accepted, Refused}
-use Rattle.verdict.specs.Refusals.{or_refused, first_of}
+use Rattle.verdict.specs.Refusals.{Verdict, Accepted, Refused, or_refused, first_of}
 use Rattle.verdict.proofs.First.{first_append, first_refused_lem, refused_accepted}
 use Rattle.season.specs.declared.Season.{Season}
 use Rattle.season.specs.Sheet.{season_days}
@@ -18,14 +16,12 @@ use Rattle.sheet.proofs.Claims as reading
 use Rattle.journal.specs.Opening.{opening}
 use Rattle.journal.specs.Roles.{Line, look_lines}
 use Rattle.journal.proofs.Roles.{by_role_lem, role_accepted}
-use Rattle.planner.specs.declared.Planned.{Planned}
+use Rattle.planner.specs.Answer.{Planned, answer_to, answer}
 use Rattle.planner.specs.Plan.{plan}
 use Rattle.planner.specs.Outlook.{outlook, days_left}
-use Rattle.planner.specs.Answer.{answer_to, answer}
 use Rattle.planner.proofs.Bank.{watering_at_most, leaving_none}
-use Rattle.bank.specs.declared.Judged.{Judged}
+use Rattle.bank.specs.Judging.{Judged, standing_on, judged_by, judged, Blocks, blocks_of, judged_at, before, first_refused, starts_differ, blocks_verdict}
 use Rattle.bank.specs.Blocks.{length_of, part_of, bank_wrong}
-use Rattle.bank.specs.Judging.{standing_on, judged_by, judged, Blocks, blocks_of, judged_at, before, first_refused, starts_differ, blocks_verdict}
 use Rattle.bank.specs.Banks.{reply_at, five, Progress, progress, bank_of, banked_if, bank_verdict, banked}
 use Rattle.bank.specs.Claims.{numbers_at, BankRight}
 use Rattle.bank.proofs.Accepted.{Stood, stood_at, sheet_at, day_at, ready_all}

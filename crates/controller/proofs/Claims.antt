@@ -13,10 +13,8 @@ use Rattle.season.specs.Calendar.{next_day, days_on}
 use Rattle.season.specs.Day.{date_of, stage_of, in_stage, kc_of, crop_need, rain_on}
 use Rattle.season.specs.Closing.{close_day}
 use Rattle.season.specs.SmallSheet as season
-use Rattle.verdict.specs.declared.Verdict.{Verdict}
-use Rattle.verdict.specs.declared.Verdict.TheVariants.{Accepted}
-use Rattle.verdict.specs.declared.Verdict.TheVariants as verdict
-use Rattle.verdict.specs.Refusals.{or_refused, first_of, verdict_of}
+use Rattle.verdict.specs.Refusals.{Verdict, Accepted, or_refused, first_of, verdict_of}
+use Rattle.verdict.specs.Refusals as verdict
 use Rattle.leb128.specs.Groups.{encode, over_groups, over_in, group_count}
 use Rattle.leb128.specs.Forms.{decode, decode_from, below}
 use Rattle.sheet.specs.Numbers.{before, numbers, after, further, ended, numbers_in, written}
@@ -24,46 +22,36 @@ use Rattle.fields.specs.Fields.{outside, lowest_outside, season_of, merged}
 use Rattle.fields.specs.Refusals.{climate_lines, block_lines, climate_verdict, block_verdict}
 use Rattle.sheet.specs.Sheets.{climate_of, block_of, sheet_is, block_with, sheets_of}
 use Rattle.sheet.specs.Cases.{small_climate, small_block}
-use Rattle.sheet.specs.declared.Written.{Written}
-use Rattle.sheet.specs.declared.Written.TheVariants as writer
-use Rattle.sheet.specs.Writing.{sheet_fields, write_lines, climate_written, block_written, write_verdict}
+use Rattle.sheet.specs.Writing.{Written, sheet_fields, write_lines, climate_written, block_written, write_verdict}
+use Rattle.sheet.specs.Writing as writer
 use Rattle.sheet.proofs.Claims as sheets
 use Rattle.journal.specs.declared.Entry.{Entry}
-use Rattle.journal.specs.declared.Opening.{Opening}
-use Rattle.journal.specs.declared.Opening.TheVariants as found
-use Rattle.journal.specs.declared.Recorded.{Recorded}
-use Rattle.journal.specs.declared.Opened.{Opened}
+use Rattle.journal.specs.Opening.{Opening, value, least, starts, entry_of, only, entry_at, replay, replayed, is_blank, trim, torn_at, behind, opening}
+use Rattle.journal.specs.Opening as found
+use Rattle.journal.specs.Calls.{Recorded, Opened, no_stores, stores_of, recorded_with, recorded_on, recorded, wipe_places, opened_with, opened_on, opened, wipe, wipes_in, opened_numbers}
 use Rattle.journal.specs.declared.Ledger.{Ledger}
 use Rattle.journal.specs.Entries.{tag_of, source_tag, number_of, start, closing, enter, refusal, accepts, passes}
 use Rattle.journal.specs.Entries as journal
-use Rattle.journal.specs.Opening as openings
-use Rattle.journal.specs.Opening.{value, least, starts, entry_of, only, entry_at, replay, replayed, is_blank, trim, torn_at, behind, opening}
-use Rattle.journal.specs.Calls.{no_stores, stores_of, recorded_with, recorded_on, recorded, wipe_places, opened_with, opened_on, opened, wipe, wipes_in, opened_numbers}
 use Rattle.journal.specs.Roles.{Line, look_lines, enter_lines, may_mend, by_role}
 use Rattle.journal.specs.History.{without_stores}
-use Rattle.journal.specs.declared.Lost.{Lost}
-use Rattle.journal.specs.declared.Lost.TheVariants as losing
-use Rattle.journal.specs.Loss.{lost, loss_numbers}
+use Rattle.journal.specs.Loss.{Lost, lost, loss_numbers}
+use Rattle.journal.specs.Loss as losing
 use Rattle.journal.specs.Specified.{Opens}
 use Rattle.journal.specs.Claims.{OpeningOccurs, RecordedOccurs, CountOccurs, OpenedOccurs}
 use Rattle.journal.proofs.Answers.{opened_opening, opened_clean, opened_refused}
 use Rattle.journal.proofs.Claims as journals
-use Rattle.planner.specs.declared.Planned.{Planned}
-use Rattle.planner.specs.declared.Planned.TheVariants as planned
+use Rattle.planner.specs.Answer.{Planned, sum, answer_to, answer}
+use Rattle.planner.specs.Answer as planned
 use Rattle.planner.specs.Choices.{irrigated}
 use Rattle.planner.specs.Plan.{ending, walk, watered, pad, on_walk, by_walks}
-use Rattle.planner.specs.Answer.{sum, answer_to, answer}
-use Rattle.decades.specs.declared.Tabled.{Tabled}
-use Rattle.decades.specs.declared.Tabled.TheVariants as table
-use Rattle.decades.specs.Table.{day_row, with_day, rows_to, six, flat, tabled}
+use Rattle.decades.specs.Table.{Tabled, day_row, with_day, rows_to, six, flat, tabled}
+use Rattle.decades.specs.Table as table
 use Rattle.planner.proofs.Claims as plans
 use Rattle.probes.specs.Contents.{is_content, ten_thousandths, content_of, pair_of, reading_of}
 use Rattle.probes.specs.Depletion.{measured}
 use Rattle.probes.proofs.Claims as probings
-use Rattle.measuring.specs.declared.Probed.{Probed}
-use Rattle.measuring.specs.declared.Probed.TheVariants.{Depletions}
-use Rattle.measuring.specs.declared.Probed.TheVariants as probed
-use Rattle.measuring.specs.Probing.{probed_on, probed_numbers}
+use Rattle.measuring.specs.Probing.{Probed, Depletions, probed_on, probed_numbers}
+use Rattle.measuring.specs.Probing as probed
 use Rattle.controller.specs.Calls.{planned_on, sheet_opened, sheet_recorded, sheet_planned, sheet_tabled, on_sheets}
 use Rattle.controller.specs.Roles.{opened_by, recorded_by, planned_by, tabled_by}
 use Rattle.controller.specs.Refusals.{on_lines, open_lines, loss_lines, entry_lines, plan_lines, probe_lines, table_lines}
@@ -156,9 +144,9 @@ module _ (role : ℕ) where
       opening_by_role P no-role with_stores without =
           look_by P unopened (cond (may_mend role) at_sheets (without_stores at_sheets)) role no-role (either_way P at_sheets (may_mend role) with_stores without)
 
-      open_refuses_by : verdict_of (openings.numbers_of (opened_by role climate block area).opening) ≡ first_of Accepted (on_lines (look_lines role) climate block (open_lines area))
+      open_refuses_by : verdict_of (found.numbers_of (opened_by role climate block area).opening) ≡ first_of Accepted (on_lines (look_lines role) climate block (open_lines area))
       open_refuses_by =
-          let verdict_in : Opened → Verdict = λ r. verdict_of (openings.numbers_of r.opening) in
+          let verdict_in : Opened → Verdict = λ r. verdict_of (found.numbers_of r.opening) in
           let so = sheets_verdict climate block verdict_in unopened (λ s. opened s area) (open_lines area) numbers_refused (λ s o. open_verdict s area) in
           look_verdict verdict_in unopened numbers_refused (cond (may_mend role) at_sheets (without_stores at_sheets)) (on_lines [] climate block (open_lines area))
           (either_way (λ r. verdict_in r ≡ first_of Accepted (on_lines [] climate block (open_lines area))) at_sheets (may_mend role) so so) role

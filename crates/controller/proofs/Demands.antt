@@ -10,39 +10,33 @@ use borrow.Author.Tests.{le-ltb}
 use Rattle.season.specs.declared.Season.{Season}
 use Rattle.season.specs.Sheet.{season_days}
 use Rattle.season.specs.Day.{root_on, total_on}
-use Rattle.verdict.specs.declared.Verdict.TheVariants as verdict
+use Rattle.verdict.specs.Refusals as verdict
 use Rattle.verdict.specs.Refusals.{or_refused}
 use Rattle.sheet.specs.Sheets.{sheets_of}
 use Rattle.sheet.proofs.Accepted.{accepted_season}
 use Rattle.journal.specs.declared.Entry.{Entry}
 use Rattle.journal.specs.declared.Ledger.{Ledger}
-use Rattle.journal.specs.declared.Opened.{Opened}
-use Rattle.journal.specs.declared.Opening.TheVariants as found
-use Rattle.journal.specs.declared.Lost.TheVariants.{Parts}
-use Rattle.journal.specs.declared.Lost.TheVariants as losing
+use Rattle.journal.specs.Calls.{Opened, no_stores, recorded_with, recorded, opened_with, opened}
+use Rattle.journal.specs.Opening as found
+use Rattle.journal.specs.Loss.{Parts, losses_of, lost_on, lost}
+use Rattle.journal.specs.Loss as losing
 use Rattle.journal.specs.Entries.{waiting}
-use Rattle.journal.specs.Loss.{losses_of, lost_on, lost}
 use Rattle.journal.specs.Opening.{opening}
-use Rattle.journal.specs.Calls.{no_stores, recorded_with, recorded, opened_with, opened}
 use Rattle.journal.specs.Book.{Step, empty_book, ledger_of, book_after, found_in}
 use Rattle.journal.specs.History.{Device, recorded_as, opened_as, journal, blank_area, area_after}
 use Rattle.journal.specs.Claims.{Kept}
 use Rattle.journal.proofs.Answers.{opened_opening}
 use Rattle.journal.proofs.Roles.{opens_same}
 use Rattle.journal.proofs.Claims as journals
-use Rattle.planner.specs.declared.Planned.{Planned}
-use Rattle.planner.specs.declared.Planned.TheVariants.{Made, Refused}
+use Rattle.planner.specs.Answer.{Planned, Made, Refused, numbers_of, answer_to, answer}
 use Rattle.planner.specs.Plan.{Plan, depths, refused}
 use Rattle.planner.specs.Outlook.{outlook, days_left}
-use Rattle.planner.specs.Answer.{numbers_of, answer_to, answer}
 use Rattle.planner.proofs.Claims as plans
 use Rattle.probes.specs.declared.Probe.{Probe}
-use Rattle.probes.specs.declared.Reading.TheVariants.{Content}
-use Rattle.probes.specs.Contents.{reading_of}
+use Rattle.probes.specs.Contents.{Content, reading_of}
 use Rattle.probes.specs.Depletion.{measured}
-use Rattle.measuring.specs.declared.Probed.TheVariants.{Depletions}
-use Rattle.measuring.specs.declared.Probed.TheVariants as probed
-use Rattle.measuring.specs.Probing.{probed_on}
+use Rattle.measuring.specs.Probing.{Depletions, probed_on}
+use Rattle.measuring.specs.Probing as probed
 use Rattle.controller.specs.Calls.{planned_on, sheet_opened, sheet_recorded, sheet_lost, sheet_planned, sheet_probed}
 use Rattle.controller.specs.Refusals.{plan_of}
 use Rattle.controller.specs.Demands.{calls, numbered, PlanKept, Demand3}

@@ -9,13 +9,11 @@ use Rattle.season.specs.Sheet.{DayOf, season_days}
 use Rattle.season.specs.Day.{AcceptedSeason}
 use Rattle.season.proofs.Bounds.{total_le}
 use Rattle.journal.specs.declared.Ledger.{Ledger}
-use Rattle.journal.specs.declared.Opening.{Opening}
-use Rattle.journal.specs.declared.Opening.TheVariants as found
+use Rattle.journal.specs.Opening.{Opening, opening}
+use Rattle.journal.specs.Opening as found
 use Rattle.journal.specs.Entries.{waiting}
-use Rattle.journal.specs.Opening.{opening}
 use Rattle.journal.proofs.Answers.{clean_within}
-use Rattle.planner.specs.declared.Planned.TheVariants.{Refused}
-use Rattle.planner.specs.Answer.{answer}
+use Rattle.planner.specs.Answer.{Refused, answer}
 use Rattle.controller.specs.Calls.{planned_on}
 
 module _ (s : Season) (area out : List ℕ) (r : Opening) (is : r ≡ opening s area) where

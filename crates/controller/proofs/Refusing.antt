@@ -12,9 +12,7 @@ use Rattle.season.specs.Sheet.{season_days}
 use Rattle.season.specs.Day.{root_on, total_on, AcceptedSeason}
 use Rattle.season.specs.Loss.{ky_outside}
 use Rattle.season.proofs.Whole.{by_order}
-use Rattle.verdict.specs.declared.Verdict.{Verdict}
-use Rattle.verdict.specs.declared.Verdict.TheVariants.{Accepted, Refused}
-use Rattle.verdict.specs.Refusals.{or_refused, first_of, verdict_of}
+use Rattle.verdict.specs.Refusals.{Verdict, Accepted, Refused, or_refused, first_of, verdict_of}
 use Rattle.verdict.proofs.First.{Refusal, Lines, first_append, first_refused_lem, first_holds, first_fails, first_refusal, refused_accepted}
 use Rattle.verdict.proofs.Claims as verdicts
 use Rattle.sheet.specs.Sheets.{sheets_of}
@@ -22,12 +20,10 @@ use Rattle.sheet.specs.Refusals.{pair_lines}
 use Rattle.sheet.proofs.Claims as sheets
 use Rattle.journal.specs.declared.Entry.{Entry}
 use Rattle.journal.specs.declared.Ledger.{Ledger}
-use Rattle.journal.specs.declared.Opening.{Opening}
-use Rattle.journal.specs.declared.Opening.TheVariants as found
+use Rattle.journal.specs.Opening.{Opening, opening}
+use Rattle.journal.specs.Opening as found
 use Rattle.journal.specs.declared.Stores.{Stores}
 use Rattle.journal.specs.Entries.{waiting, start, refusals, refusal}
-use Rattle.journal.specs.Opening as openings
-use Rattle.journal.specs.Opening.{opening}
 use Rattle.journal.specs.Specified.{bytes_all, Says}
 use Rattle.journal.specs.Specified as said
 use Rattle.journal.specs.Calls.{no_stores, recorded_with, stores_of, recorded_on, recorded, opened}
@@ -36,25 +32,19 @@ use Rattle.journal.specs.Loss as yield
 use Rattle.journal.specs.Loss.{losses_of, loss_refusals, lost_unless, lost_on, loss_numbers}
 use Rattle.journal.proofs.Answers.{opened_opening}
 use Rattle.journal.proofs.Claims as journals
-use Rattle.planner.specs.declared.Planned.{Planned}
-use Rattle.planner.specs.declared.Planned.TheVariants as planned
+use Rattle.planner.specs.Answer.{Planned, answer_to, answer}
+use Rattle.planner.specs.Answer as planned
 use Rattle.planner.specs.Plan.{Plan, depths, refused}
 use Rattle.planner.specs.Outlook.{days_left}
-use Rattle.planner.specs.Answer.{answer_to, answer}
-use Rattle.planner.specs.Answer as answers
 use Rattle.planner.proofs.Claims as plans
-use Rattle.decades.specs.Table.{row_count, tabled}
-use Rattle.decades.specs.declared.Tabled.{Tabled}
-use Rattle.decades.specs.declared.Tabled.TheVariants as table
-use Rattle.decades.specs.Table as definition
+use Rattle.decades.specs.Table.{row_count, tabled, Tabled}
+use Rattle.decades.specs.Table as table
 use Rattle.decades.proofs.Claims as tables
 use Rattle.probes.specs.declared.Probe.{Probe}
-use Rattle.probes.specs.declared.Reading.{Reading}
-use Rattle.probes.specs.Contents.{reading_of, content_in}
+use Rattle.probes.specs.Contents.{Reading, reading_of, content_in}
 use Rattle.probes.specs.Depletion.{measured}
 use Rattle.probes.proofs.Claims as probings
-use Rattle.measuring.specs.declared.Probed.TheVariants.{Depletions}
-use Rattle.measuring.specs.Probing.{capacity_outside, probe_refusals, probed_unless, probed_on, probed_numbers}
+use Rattle.measuring.specs.Probing.{Depletions, capacity_outside, probe_refusals, probed_unless, probed_on, probed_numbers}
 use Rattle.controller.specs.Calls.{on_sheets, planned_on}
 use Rattle.controller.specs.Refusals.{on_lines, damaged, torn_line, ledger_in, open_lines, loss_lines, entry_lines, lost, plan_of, room_lines, plan_lines, probe_lines, table_lines}
 use Rattle.controller.proofs.Sheets.{on_sheets_lem}
@@ -127,10 +117,10 @@ module _ (s : Season) (area : List ℕ) (P : Opening → Type 0) (long : 8192 < 
 -- ---- the verdict of a plan's and of a table's answer, by their numbers
 
 abbrev pub plan_verdict : Planned × List ℕ → Verdict
-plan_verdict a = verdict_of (answers.numbers_of a.0)
+plan_verdict a = verdict_of (planned.numbers_of a.0)
 
 abbrev pub table_verdict : Tabled × List ℕ → Verdict
-table_verdict a = verdict_of (definition.numbers_of a.0)
+table_verdict a = verdict_of (table.numbers_of a.0)
 
 -- ---- 8 to 14
 
@@ -152,11 +142,11 @@ module _ (s : Season) (area : List ℕ) where
       (λ h l i. torn l ∙ sym (rw (le-ltb 8192 (length area) h)))
       (λ h l i. refuses 9 l.place (omega arith) ∙ sym (rw (le-ltb 8192 (length area) h) (first_refused_lem 9 l.place (lines (found.Refused 9 l.place)))))
 
-  pub open_verdict : verdict_of (openings.numbers_of (opened s area).opening) ≡ first_of Accepted (open_lines area s)
+  pub open_verdict : verdict_of (found.numbers_of (opened s area).opening) ≡ first_of Accepted (open_lines area s)
   unfolding or_refused
   open_verdict =
-      ap (λ (o : Opening). verdict_of (openings.numbers_of o)) (opened_opening s area)
-      ∙ by_opening (λ o. verdict_of (openings.numbers_of o)) (λ o. torn_line o ∷ []) numbers_refused (λ l. refl) (λ l. refl)
+      ap (λ (o : Opening). verdict_of (found.numbers_of o)) (opened_opening s area)
+      ∙ by_opening (λ o. verdict_of (found.numbers_of o)) (λ o. torn_line o ∷ []) numbers_refused (λ l. refl) (λ l. refl)
 
   recorded_with_verdict : (v : Verdict) (w : Stores) → (recorded_with v w).verdict ≡ v
   unfolding recorded_with
@@ -247,7 +237,7 @@ pub table_verdict_lem : (s : Season) (out : List ℕ) → table_verdict (tabled 
 unfolding tabled or_refused
 table_verdict_lem s out = go (ltb (length out) (row_count s * 6))
   where
-    go : (b : Bool) → table_verdict (cond {A = Tabled × List ℕ} b (table.Refused 15 0, out) (table.Rows (row_count s), definition.table s ++ drop (row_count s * 6) out))
+    go : (b : Bool) → table_verdict (cond {A = Tabled × List ℕ} b (table.Refused 15 0, out) (table.Rows (row_count s), table.table s ++ drop (row_count s * 6) out))
         ≡ first_of Accepted ((b, 15, 0) ∷ [])
     go true = refl
     go false = refl
@@ -278,7 +268,7 @@ pub plan_refused_keeps : (s : Season) (area out : List ℕ) (number value : ℕ)
 unfolding planned_on
 plan_refused_keeps s area out number value = go (opening s area)
   where
-    keeps : (l : Ledger) (a : Planned) → (answer s l.day l.depletion (waiting l) out).0 ≡ a → verdict_of (answers.numbers_of a) ≡ Refused number value
+    keeps : (l : Ledger) (a : Planned) → (answer s l.day l.depletion (waiting l) out).0 ≡ a → verdict_of (planned.numbers_of a) ≡ Refused number value
         → (answer s l.day l.depletion (waiting l) out).1 ≡ out
     keeps l (planned.Made days net gross) q h = absurd (refused_accepted number value (sym h))
     keeps l (planned.Refused m w) q h =
@@ -297,6 +287,6 @@ plan_refused_keeps s area out number value = go (opening s area)
 pub table_refused_keeps : (s : Season) (out : List ℕ) (number value : ℕ) → table_verdict (tabled s out) ≡ Refused number value → (tabled s out).1 ≡ out
 table_refused_keeps s out number value = go (tabled s out).0 refl
   where
-    go : (a : Tabled) → (tabled s out).0 ≡ a → verdict_of (definition.numbers_of a) ≡ Refused number value → (tabled s out).1 ≡ out
+    go : (a : Tabled) → (tabled s out).0 ≡ a → verdict_of (table.numbers_of a) ≡ Refused number value → (tabled s out).1 ≡ out
     go (table.Rows count) q h = absurd (refused_accepted number value (sym h))
     go (table.Refused m w) q h = (tables.claims).refused_unaltered s out m w q

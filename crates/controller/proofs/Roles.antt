@@ -1,24 +1,27 @@
 -- The calls by a role: what they are without one, what they refuse, and that role 1 leaves the area.
-use Prim.Native.Nat.{ℕ, ◌≤◌}
+use Prim.Native.Nat.{ℕ, suc, ◌≤◌, ◌<◌}
 use mathlib.Core.Path.{◌≡◌, refl, sym, ◌∙◌, ap}
-use mathlib.Core.Bool.{Bool, true, false, cond}
+use mathlib.Core.Bool.{Bool, true, false, cond, ◌||◌}
 use mathlib.Core.List.{List, [], ◌∷◌, ◌++◌}
 use native.Mathlib.Omega.{arith}
-use lib.Dec.{eqb}
+use lib.Dec.{eqb, ltb}
+use mathlib.Core.Logic.{◌⊎◌, inl, inr}
+use denote.Enum.Bare.{sameb}
+use Rattle.leb128.proofs.Steps.{lt_or_le}
+use Rattle.controller.specs.contracts.Role.{the_type}
+use Rattle.controller.specs.declared.Role.{Role}
+use Rattle.controller.specs.declared.Role.TheVariants.{Looks, Enters, Mends}
 use lib.Seq.{take-nil}
-use borrow.Author.Tests.{eq-eqb, ne_eqb}
-use Rattle.verdict.specs.declared.Verdict.{Verdict}
-use Rattle.verdict.specs.declared.Verdict.TheVariants.{Accepted, Refused}
-use Rattle.verdict.specs.Refusals.{or_refused, first_of}
-use Rattle.verdict.proofs.First.{first_append, first_refused_lem}
-use Rattle.journal.specs.declared.Opened.{Opened}
-use Rattle.journal.specs.Calls.{Store}
+use borrow.Author.Tests.{ne_eqb, lt-ltb, le-ltb}
+use Rattle.verdict.specs.Refusals.{Verdict, Accepted, Refused, or_refused, first_of}
+use Rattle.verdict.proofs.First.{first_append, first_refused_lem, first_holds}
+use Rattle.journal.specs.Calls.{Opened, Store}
 use Rattle.journal.specs.Book.{Call, enters, opens}
 use Rattle.journal.specs.Roles.{Line, look_lines, enter_lines, may_mend, by_role}
 use Rattle.journal.specs.History.{without_stores, handed, stored, area_next}
 use Rattle.journal.proofs.Roles.{role_refused, role_accepted, by_role_lem, refusal_of, may_look, may_enter, enters_nothing, opens_nothing}
 use Rattle.controller.specs.Calls.{sheet_opened, sheet_recorded}
-use Rattle.controller.specs.Roles.{opened_by, SameForRoles}
+use Rattle.controller.specs.Roles.{role_number, opened_by, SameForRoles}
 use Rattle.controller.specs.Demands.{calls, Press, area_pressed, OnlyLook}
 
 -- ---- a call by the verdict on its role
@@ -35,10 +38,34 @@ pub entering : (role : ℕ) {v w : Verdict} → v ≡ first_of Accepted (look_li
 unfolding look_lines enter_lines
 entering role i j = j ∙ ap (λ (v : Verdict). or_refused v (eqb role 1) 21 0) i
 
+-- The code compares roles as their numbers.
+pub looks : (k : Role) → sameb the_type k Looks ≡ eqb (role_number k) 1
+looks Looks = refl
+looks Enters = refl
+looks Mends = refl
+
+pub mends : (k : Role) → sameb the_type k Mends ≡ eqb (role_number k) 3
+mends Looks = refl
+mends Enters = refl
+mends Mends = refl
+
+-- A number that is no role's.
+pub role_outside : (role : ℕ) → (role ≡ 1 → ⊥) → (role ≡ 2 → ⊥) → (role ≡ 3 → ⊥) → first_of Accepted (look_lines role) ≡ Refused 20 0
+unfolding look_lines
+role_outside role a b c = go (lt_or_le role 1) (lt_or_le 4 (suc role))
+  where
+    go : (role < 1) ⊎ (1 ≤ role) → (4 < suc role) ⊎ (suc role ≤ 4) → first_of Accepted ((ltb role 1 || ltb 3 role, 20, 0) ∷ []) ≡ Refused 20 0
+    go (inl h) q = first_holds _ 20 0 [] (rw (lt-ltb role 1 h) refl)
+    go (inr h) (inl q) = first_holds _ 20 0 [] (rw (le-ltb role 1 h, lt-ltb 3 role (omega arith)) refl)
+    go (inr h) (inr q) = absurd (omega (arith, a, b, c))
+
 -- An opening's stores are for role 3.
 module _ (role : ℕ) (r : Opened) where
-  pub with_stores : role ≡ 3 → r ≡ cond (may_mend role) r (without_stores r)
-  with_stores e = rw (eq-eqb role 3 e) refl
+  pub with_stores : may_mend role ≡ true → r ≡ cond (may_mend role) r (without_stores r)
+  with_stores e = rw e refl
+
+  pub stores_kept : may_mend role ≡ false → without_stores r ≡ cond (may_mend role) r (without_stores r)
+  stores_kept e = rw e refl
 
   pub no_stores_for : (role ≡ 3 → ⊥) → without_stores r ≡ cond (may_mend role) r (without_stores r)
   no_stores_for h = rw (ne_eqb role 3 h) refl

@@ -4,31 +4,23 @@
 use Rattle.std.specs.Prelude.{ℕ, cond, List, [], ltb}
 use Rattle.season.specs.declared.Season.{Season}
 use Rattle.season.specs.Sheet.{season_days}
-use Rattle.verdict.specs.declared.Verdict.{Verdict}
-use Rattle.verdict.specs.declared.Verdict.TheVariants.{Accepted, Refused}
+use Rattle.verdict.specs.Refusals.{Verdict, Accepted, Refused}
 use Rattle.sheet.specs.Sheets.{sheets_of}
 use Rattle.journal.specs.declared.Entry.{Entry}
-use Rattle.journal.specs.declared.Opening.{Opening}
-use Rattle.journal.specs.declared.Opening.TheVariants as found
-use Rattle.journal.specs.declared.Recorded.{Recorded}
-use Rattle.journal.specs.declared.Opened.{Opened}
-use Rattle.journal.specs.declared.Lost.{Lost}
-use Rattle.journal.specs.declared.Lost.TheVariants as losing
+use Rattle.journal.specs.Opening.{Opening, opening}
+use Rattle.journal.specs.Opening as found
+use Rattle.journal.specs.Calls.{Recorded, Opened, no_stores, recorded_with, recorded, opened_with, opened}
+use Rattle.journal.specs.Loss.{Lost, lost}
+use Rattle.journal.specs.Loss as losing
 use Rattle.journal.specs.Entries.{waiting}
-use Rattle.journal.specs.Opening.{opening}
-use Rattle.journal.specs.Calls.{no_stores, recorded_with, recorded, opened_with, opened}
-use Rattle.journal.specs.Loss.{lost}
-use Rattle.planner.specs.declared.Planned.{Planned}
-use Rattle.planner.specs.declared.Planned.TheVariants as planned
-use Rattle.planner.specs.Answer.{answer}
-use Rattle.decades.specs.declared.Tabled.{Tabled}
-use Rattle.decades.specs.declared.Tabled.TheVariants as table
-use Rattle.decades.specs.Table.{tabled}
+use Rattle.planner.specs.Answer.{Planned, answer}
+use Rattle.planner.specs.Answer as planned
+use Rattle.decades.specs.Table.{Tabled, tabled}
+use Rattle.decades.specs.Table as table
 use Rattle.probes.specs.declared.Probe.{Probe}
 use Rattle.probes.specs.Contents.{reading_of}
-use Rattle.measuring.specs.declared.Probed.{Probed}
-use Rattle.measuring.specs.declared.Probed.TheVariants as probed
-use Rattle.measuring.specs.Probing.{probed_on}
+use Rattle.measuring.specs.Probing.{Probed, probed_on}
+use Rattle.measuring.specs.Probing as probed
 
 abbrev pub by_verdict : {A : Type 0} → (ℕ → ℕ → A) → (Season → A) → Season → Verdict → A
 by_verdict refuse reply s Accepted = reply s

@@ -17,9 +17,9 @@ use Rattle.journal.specs.declared.Source.TheVariants.{Rain}
 use Rattle.journal.specs.declared.Entry.TheVariants as entry
 use Rattle.journal.specs.Opening as openings
 use Rattle.journal.specs.Calls.{opened_numbers}
-use Rattle.planner.specs.declared.Planned.{Planned}
+use Rattle.planner.specs.Answer.{Planned}
 use Rattle.planner.specs.Answer as planner
-use Rattle.decades.specs.declared.Tabled.{Tabled}
+use Rattle.decades.specs.Table.{Tabled}
 use Rattle.decades.specs.Table as decades
 use Rattle.probes.specs.declared.Probe.{Probe}
 use Rattle.probes.specs.declared.Probe.TheVariants.{Water, Low, Silent}

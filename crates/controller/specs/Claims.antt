@@ -1,10 +1,9 @@
 -- What is proved of the calls, gathered: `claims`, in proofs/Claims.antt, has a proof of each field. The lower crates' claims stand in their own `Claims`.
 use Rattle.std.specs.Prelude.{◌≡◌, ◌↔◌, List, [], ◌++◌, map, ℕ, ◌≤◌, ◌<◌, length, drop}
-use Rattle.verdict.specs.declared.Verdict.TheVariants.{Accepted, Refused}
-use Rattle.verdict.specs.Refusals.{first_of, verdict_of}
+use Rattle.verdict.specs.Refusals.{Accepted, Refused, first_of, verdict_of}
 use Rattle.season.specs.Sheet.{season_days}
 use Rattle.leb128.specs.Claims.{Bytes}
-use Rattle.sheet.specs.declared.Written.TheVariants as writer
+use Rattle.sheet.specs.Writing as writer
 use Rattle.sheet.specs.Numbers.{written}
 use Rattle.fields.specs.Refusals.{climate_lines, block_lines}
 use Rattle.sheet.specs.Sheets.{climate_of, block_of, sheets_of}
@@ -13,9 +12,8 @@ use Rattle.sheet.specs.OneSheet.{sheet_of, one_sheet}
 use Rattle.sheet.specs.Claims as sheet
 use Rattle.journal.specs.declared.Entry.{Entry}
 use Rattle.journal.specs.declared.Ledger.{Ledger}
-use Rattle.journal.specs.declared.Opening.TheVariants.{Clean}
-use Rattle.journal.specs.declared.Opening.TheVariants as found
-use Rattle.journal.specs.Opening as openings
+use Rattle.journal.specs.Opening.{Clean}
+use Rattle.journal.specs.Opening as found
 use Rattle.journal.specs.Specified.{Opens}
 use Rattle.journal.specs.Calls.{no_stores, recorded_with, wipe_places, opened_with, wipe, wipes_in}
 use Rattle.journal.specs.Loss.{loss_numbers}
@@ -33,8 +31,7 @@ use Rattle.bank.specs.Claims.{numbers_at, BankRight}
 use Rattle.decades.specs.Table as tabled
 use Rattle.probes.specs.declared.Probe.{Probe}
 use Rattle.probes.specs.Claims as probes
-use Rattle.measuring.specs.declared.Probed.{Probed}
-use Rattle.measuring.specs.Probing.{probed_numbers}
+use Rattle.measuring.specs.Probing.{Probed, probed_numbers}
 use Rattle.controller.specs.Calls.{sheet_opened, sheet_planned}
 use Rattle.controller.specs.Roles.{opened_by, recorded_by, loss_by, planned_by, probed_by, banked_by, tabled_by, climate_written_by, block_written_by, SameForRoles}
 use Rattle.controller.specs.Refusals.{on_lines, open_lines, loss_lines, entry_lines, plan_lines, probe_lines, table_lines, bank_lines}
@@ -53,7 +50,7 @@ pub record Claims : Type 0 where
   pub same_for_roles : SameForRoles
   -- Demand 1: each call gives the first refusal that applies,
   pub open_refuses : (role : ℕ) (climate block area : List ℕ)
-      → verdict_of (openings.numbers_of (opened_by role climate block area).opening) ≡ first_of Accepted (on_lines (look_lines role) climate block (open_lines area))
+      → verdict_of (found.numbers_of (opened_by role climate block area).opening) ≡ first_of Accepted (on_lines (look_lines role) climate block (open_lines area))
   pub entry_refuses : (role : ℕ) (climate block area : List ℕ) (e : Entry)
       → (recorded_by role climate block area e).verdict ≡ first_of Accepted (on_lines (enter_lines role) climate block (entry_lines area e))
   pub loss_refuses : (role : ℕ) (climate block area : List ℕ) (ky : ℕ)

@@ -5,23 +5,20 @@ use Rattle.season.specs.Sheet.{season_days}
 use Rattle.season.specs.Day.{root_on, total_on}
 use Rattle.sheet.specs.Sheets.{sheets_of}
 use Rattle.journal.specs.declared.Ledger.{Ledger}
-use Rattle.journal.specs.declared.Lost.TheVariants.{Parts}
+use Rattle.journal.specs.Loss.{Parts, losses_of}
 use Rattle.journal.specs.Entries.{waiting}
-use Rattle.journal.specs.Loss.{losses_of}
 use Rattle.journal.specs.Book.{Step, Book, empty_book, ledger_of, book_after}
 use Rattle.journal.specs.History.{Device, blank_area, area_next, area_after}
 use Rattle.journal.specs.Claims.{Kept}
-use Rattle.planner.specs.declared.Planned.{Planned}
+use Rattle.planner.specs.Answer.{Planned, numbers_of}
 use Rattle.planner.specs.Choices.{NoChoice, FirstLost}
 use Rattle.planner.specs.Plan.{depths}
 use Rattle.planner.specs.Outlook.{outlook, days_left}
-use Rattle.planner.specs.Answer.{numbers_of}
 use Rattle.planner.specs.Claims.{MadeRight}
 use Rattle.probes.specs.declared.Probe.{Probe}
-use Rattle.probes.specs.declared.Reading.TheVariants.{Content}
-use Rattle.probes.specs.Contents.{reading_of}
+use Rattle.probes.specs.Contents.{Content, reading_of}
 use Rattle.probes.specs.Depletion.{measured}
-use Rattle.measuring.specs.declared.Probed.TheVariants.{Depletions}
+use Rattle.measuring.specs.Probing.{Depletions}
 use Rattle.controller.specs.Roles.{opened_by, recorded_by, loss_by, planned_by, probed_by}
 use Rattle.controller.specs.Refusals.{plan_of}
 

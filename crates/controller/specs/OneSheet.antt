@@ -1,20 +1,20 @@
 -- A pair of sheets gets the answers that its numbers got in one sheet (document 02, T-08): each call beside the one that the requests before had.
 use Rattle.std.specs.Prelude.{ℕ, ◌≡◌, List, []}
 use Rattle.season.specs.declared.Season.{Season}
-use Rattle.verdict.specs.declared.Verdict.TheVariants.{Refused}
+use Rattle.verdict.specs.Refusals.{Refused}
 use Rattle.sheet.specs.OneSheet.{sheet_of, one_sheet}
 use Rattle.journal.specs.declared.Entry.{Entry}
-use Rattle.journal.specs.declared.Opening.TheVariants as found
-use Rattle.journal.specs.declared.Lost.TheVariants as losing
+use Rattle.journal.specs.Opening as found
+use Rattle.journal.specs.Loss as losing
 use Rattle.journal.specs.Opening.{opening}
 use Rattle.journal.specs.Calls.{no_stores, recorded_with, recorded, opened_with, opened}
 use Rattle.journal.specs.Loss.{lost}
-use Rattle.planner.specs.declared.Planned.TheVariants as planned
-use Rattle.decades.specs.declared.Tabled.TheVariants as table
+use Rattle.planner.specs.Answer as planned
+use Rattle.decades.specs.Table as table
 use Rattle.decades.specs.Table.{tabled}
 use Rattle.probes.specs.declared.Probe.{Probe}
 use Rattle.probes.specs.Contents.{reading_of}
-use Rattle.measuring.specs.declared.Probed.TheVariants as probed
+use Rattle.measuring.specs.Probing as probed
 use Rattle.measuring.specs.Probing.{probed_on}
 use Rattle.controller.specs.Calls.{by_verdict, planned_on, sheet_opened, sheet_recorded, sheet_lost, sheet_planned, sheet_probed, sheet_tabled}
 

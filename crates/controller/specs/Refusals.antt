@@ -9,10 +9,9 @@ use Rattle.sheet.specs.Sheets.{climate_of, sheets_of}
 use Rattle.sheet.specs.Refusals.{climate_sheet_lines, block_sheet_lines, pair_lines}
 use Rattle.journal.specs.declared.Entry.{Entry}
 use Rattle.journal.specs.declared.Ledger.{Ledger}
-use Rattle.journal.specs.declared.Opening.{Opening}
-use Rattle.journal.specs.declared.Opening.TheVariants as found
+use Rattle.journal.specs.Opening.{Opening, opening}
+use Rattle.journal.specs.Opening as found
 use Rattle.journal.specs.Entries.{waiting, start, refusals}
-use Rattle.journal.specs.Opening.{opening}
 use Rattle.journal.specs.Roles.{Line}
 use Rattle.planner.specs.Plan.{Plan, depths, refused, plan}
 use Rattle.planner.specs.Outlook.{outlook, days_left}

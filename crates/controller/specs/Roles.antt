@@ -1,27 +1,36 @@
 -- Document 02, T-09: what each call answers a role. 20 and 21 come before anything else is looked at; a refused role has no stores and leaves every lent
 -- buffer as it was.
-use Rattle.std.specs.Prelude.{ℕ, ◌≤◌, ◌≡◌, List}
-use Rattle.verdict.specs.declared.Verdict.{Verdict}
-use Rattle.verdict.specs.declared.Verdict.TheVariants.{Refused}
-use Rattle.sheet.specs.declared.Written.{Written}
-use Rattle.sheet.specs.declared.Written.TheVariants as writer
-use Rattle.sheet.specs.Writing.{climate_written, block_written}
+use Rattle.std.specs.Prelude.{ℕ, ◌≤◌, ◌≡◌, List, Result, IfOk}
+use Rattle.verdict.specs.declared.Refusal as refusal
+use Rattle.verdict.specs.Refusals.{Verdict, Accepted, Refused, first_of, verdict_in}
+use Rattle.sheet.specs.Writing.{Written, climate_written, block_written}
+use Rattle.sheet.specs.Writing as writer
 use Rattle.journal.specs.declared.Entry.{Entry}
-use Rattle.journal.specs.declared.Recorded.{Recorded}
-use Rattle.journal.specs.declared.Opened.{Opened}
-use Rattle.journal.specs.declared.Lost.{Lost}
-use Rattle.journal.specs.declared.Lost.TheVariants as losing
+use Rattle.journal.specs.Calls.{Recorded, Opened}
+use Rattle.journal.specs.Loss.{Lost}
+use Rattle.journal.specs.Loss as losing
 use Rattle.journal.specs.Roles.{look_lines, by_role}
 use Rattle.journal.specs.History.{without_stores, recorded_as, opened_as}
-use Rattle.planner.specs.declared.Planned.{Planned}
-use Rattle.planner.specs.declared.Planned.TheVariants as planned
+use Rattle.planner.specs.Answer.{Planned}
+use Rattle.planner.specs.Answer as planned
 use Rattle.bank.specs.Banks.{banked}
-use Rattle.decades.specs.declared.Tabled.{Tabled}
-use Rattle.decades.specs.declared.Tabled.TheVariants as table
+use Rattle.decades.specs.Table.{Tabled}
+use Rattle.decades.specs.Table as table
 use Rattle.probes.specs.declared.Probe.{Probe}
-use Rattle.measuring.specs.declared.Probed.{Probed}
-use Rattle.measuring.specs.declared.Probed.TheVariants as probed
+use Rattle.measuring.specs.Probing.{Probed}
+use Rattle.measuring.specs.Probing as probed
+use Rattle.controller.specs.declared.Role.{Role}
+use Rattle.controller.specs.declared.Role.TheVariants.{Looks, Enters, Mends}
 use Rattle.controller.specs.Calls.{sheet_opened, sheet_recorded, sheet_lost, sheet_planned, sheet_probed, sheet_tabled}
+
+-- What the code makes of a role's number: refusal 20, or the role of that number.
+abbrev pub role_number : Role → ℕ
+role_number Looks = 1
+role_number Enters = 2
+role_number Mends = 3
+
+abbrev pub Says : ℕ → Result Role refusal.Refusal → Type 0
+Says role r = (verdict_in r ≡ first_of Accepted (look_lines role)) × IfOk r (λ k. role_number k ≡ role)
 
 -- Open: roles 1 and 2 get no stores.
 abbrev pub opened_by : ℕ → List ℕ → List ℕ → List ℕ → Opened

@@ -1,24 +1,34 @@
 -- The answer goes by what the opening found; a clean journal's ledger is within its ranges.
-use mathlib.Core.Path.{◌∙◌}
+use mathlib.Core.Path.{refl, sym, ap, ◌∙◌}
 use native.Mathlib.Omega.{arith}
-use Rattle.controller.proofs.Plans.{plan_closed, plan_open, plan_torn, plan_refused, ledger_plans}
+use Rattle.verdict.proofs.First.{handed_on}
+use Rattle.journal.proofs.Found.{clean_found, unclean_found}
+use Rattle.planner.specs.Answer.{Refused}
+use Rattle.controller.specs.Calls.{planned_on}
+use Rattle.controller.proofs.Plans.{plan_closed, plan_open, ledger_plans}
 use Rattle.controller.proofs.plan_season.Goals as goal
 
 pub returns-then-season_days-l : goal.returns-then-season_days-l
-returns-then-season_days-l c = plan_closed c.args.s c.args.area.now c.args.depths.now c.find.result c.find.ensures _ _ c.in-Clean.is c.season_days.ensures c.if-season_days-l.true
+returns-then-season_days-l c =
+    plan_closed c.args.s c.args.area.now c.args.depths.now _ c.find.ensures _ _ (clean_found _ _ (sym c.clean.ensures ∙ c.in_ok-l.was)) c.season_days.ensures c.if-season_days-l.true
 
 pub overflow_add-l : goal.overflow_add-l
-overflow_add-l c = record { fits = omega (arith, ledger_plans c.args.s c.args.area.now c.args.depths.now c.find.result c.find.ensures c.requires _ _ c.in-Clean.is c.season_days.ensures c.if-season_days-l.false) }
+overflow_add-l c =
+    record { fits = omega (arith, ledger_plans c.args.s c.args.area.now c.args.depths.now _ c.find.ensures c.requires _ _ (clean_found _ _ (sym c.clean.ensures ∙ c.in_ok-l.was)) c.season_days.ensures c.if-season_days-l.false) }
 
 pub make_plan-requires : goal.make_plan-requires
-make_plan-requires c = let p = ledger_plans c.args.s c.args.area.now c.args.depths.now c.find.result c.find.ensures c.requires _ _ c.in-Clean.is c.season_days.ensures c.if-season_days-l.false in
+make_plan-requires c =
+    let p = ledger_plans c.args.s c.args.area.now c.args.depths.now _ c.find.ensures c.requires _ _ (clean_found _ _ (sym c.clean.ensures ∙ c.in_ok-l.was)) c.season_days.ensures c.if-season_days-l.false in
     record { valid = c.requires.valid; day_of = p.1; depletion_bound = p.2 }
 
-pub returns-else-season_days-l : goal.returns-else-season_days-l
-returns-else-season_days-l c = c.make_plan.ensures ∙ plan_open c.args.s c.args.area.now c.args.depths.now c.find.result c.find.ensures _ _ c.in-Clean.is c.season_days.ensures c.if-season_days-l.false
+pub returns : goal.returns
+returns c =
+    c.make_plan.ensures
+    ∙ plan_open c.args.s c.args.area.now c.args.depths.now _ c.find.ensures _ _ (clean_found _ _ (sym c.clean.ensures ∙ c.in_ok-l.was)) c.season_days.ensures c.if-season_days-l.false
 
-pub returns-in-Torn : goal.returns-in-Torn
-returns-in-Torn c = plan_torn c.args.s c.args.area.now c.args.depths.now c.find.result c.find.ensures _ _ c.in-Torn.is
-
-pub returns-in-Refused : goal.returns-in-Refused
-returns-in-Refused c = plan_refused c.args.s c.args.area.now c.args.depths.now c.find.result c.find.ensures _ _ c.in-Refused.is
+pub returns-in_err-l : goal.returns-in_err-l
+unfolding planned_on
+returns-in_err-l c =
+    rw (handed_on _ _ c.from_residual.ensures.1)
+    (sym (ap (planned_on c.args.s c.args.depths.now) (sym c.find.ensures)
+    ∙ unclean_found (planned_on c.args.s c.args.depths.now) (λ number value. (Refused number value, c.args.depths.now)) (λ l place. refl) (λ number place. refl) _ _ (sym c.clean.ensures ∙ c.in_err-l.was)))

@@ -1,16 +1,19 @@
 -- The answer goes by what reading the sheets answered.
 use mathlib.Core.Path.{sym, ◌∙◌}
-use Rattle.controller.proofs.Sheets.{sheets_refused, sheets_accepted, read_accepted_season}
-use Rattle.planner.specs.declared.Planned.TheVariants.{Refused}
+use Rattle.verdict.proofs.First.{handed_on}
+use Rattle.planner.specs.Answer.{Refused}
 use Rattle.journal.specs.Opening.{opening}
 use Rattle.controller.specs.Calls.{planned_on}
+use Rattle.controller.proofs.Sheets.{reading_refused, reading_accepted, read_accepted_season}
 use Rattle.controller.proofs.sheet_planned.Goals as goal
 
 pub plan_season-requires : goal.plan_season-requires
-plan_season-requires c = read_accepted_season _ _ c.read-read.result c.read-read.ensures c.in-Accepted.is
+plan_season-requires c = (read_accepted_season _ _ _ c.read.ensures _ c.in_ok-season.was)
 
-pub returns-in-Refused : goal.returns-in-Refused
-returns-in-Refused c = sym (sheets_refused (λ number value. (Refused number value, c.args.depths.now)) (λ s. planned_on s c.args.depths.now (opening s c.args.area.now)) c.args.climate.now c.args.block.now c.read-read.result c.read-read.ensures _ _ c.in-Refused.is)
+pub returns-in_err-season : goal.returns-in_err-season
+returns-in_err-season c =
+    rw (handed_on _ _ c.from_residual.ensures.1)
+    (sym (reading_refused (λ number value. (Refused number value, c.args.depths.now)) (λ s. planned_on s c.args.depths.now (opening s c.args.area.now)) c.args.climate.now c.args.block.now _ c.read.ensures _ c.in_err-season.was))
 
-pub returns-in-Accepted : goal.returns-in-Accepted
-returns-in-Accepted c = c.plan_season.ensures ∙ sym (sheets_accepted (λ number value. (Refused number value, c.args.depths.now)) (λ s. planned_on s c.args.depths.now (opening s c.args.area.now)) c.args.climate.now c.args.block.now c.read-read.result c.read-read.ensures c.in-Accepted.is)
+pub returns : goal.returns
+returns c = c.plan_season.ensures ∙ sym (reading_accepted (λ number value. (Refused number value, c.args.depths.now)) (λ s. planned_on s c.args.depths.now (opening s c.args.area.now)) c.args.climate.now c.args.block.now _ c.read.ensures _ c.in_ok-season.was)
