@@ -9,51 +9,41 @@ use lib.Dec.{ltb, eqb}
 use lib.ListN.{length, drop, take, get_or, length-drop}
 use Rattle.season.specs.declared.Season.{Season}
 use Rattle.season.specs.Day.{AcceptedSeason}
-use Rattle.verdict.specs.declared.Verdict.{Verdict}
-use Rattle.verdict.specs.declared.Verdict.TheVariants.{Accepted, Refused}
-use Rattle.verdict.specs.Refusals.{or_refused, first_of}
+use Rattle.verdict.specs.Refusals.{Verdict, Accepted, Refused, or_refused, first_of}
 use Rattle.verdict.proofs.First.{Refusal, first_refusal}
 use Rattle.sheet.proofs.Numbered.{refused_is, climate_write_refused_is, block_write_refused_is}
 use Rattle.sheet.proofs.Claims as sheets
-use Rattle.sheet.specs.declared.Written.{Written}
-use Rattle.sheet.specs.declared.Written.TheVariants as writer
+use Rattle.sheet.specs.Writing.{Written, sheet_fields, climate_written, block_written, write_verdict}
+use Rattle.sheet.specs.Writing as writer
 use Rattle.sheet.specs.Numbers.{written}
-use Rattle.sheet.specs.Writing.{sheet_fields, climate_written, block_written, write_verdict}
 use Rattle.sheet.specs.Sheets.{climate_of, block_with, sheets_of}
 use Rattle.season.specs.Sheet.{season_days, longest_season}
 use Rattle.journal.specs.declared.Entry.{Entry}
 use Rattle.journal.specs.declared.Ledger.{Ledger}
 use Rattle.journal.specs.declared.Stores.{Stores}
-use Rattle.journal.specs.declared.Recorded.{Recorded}
-use Rattle.journal.specs.declared.Opened.{Opened}
-use Rattle.journal.specs.declared.Opening.TheVariants as found
+use Rattle.journal.specs.Calls.{Recorded, Opened, stores_of, no_stores, recorded_with, recorded_on, recorded, wipe_places, opened_with, opened_on, opened}
+use Rattle.journal.specs.Opening as found
 use Rattle.journal.specs.Entries.{waiting, refusals, refusal}
 use Rattle.journal.specs.Opening.{opening}
-use Rattle.journal.specs.Calls.{stores_of, no_stores, recorded_with, recorded_on, recorded, wipe_places, opened_with, opened_on, opened}
 use Rattle.journal.specs.Roles.{look_lines, may_mend, by_role}
 use Rattle.journal.specs.History.{without_stores}
-use Rattle.journal.specs.declared.Lost.TheVariants as losing
+use Rattle.journal.specs.Loss as losing
 use Rattle.journal.specs.Loss.{losses_of, loss_refusals, lost_unless, lost_by, lost_on, lost}
 use Rattle.journal.specs.Claims.{StoresOccur}
-use Rattle.planner.specs.declared.Planned.{Planned}
-use Rattle.planner.specs.declared.Planned.TheVariants as planned
+use Rattle.planner.specs.Answer.{Planned, answer_to, answer}
+use Rattle.planner.specs.Answer as planned
 use Rattle.planner.specs.Plan.{Plan, depths, refused, plan}
 use Rattle.planner.specs.Outlook.{outlook, days_left}
-use Rattle.planner.specs.Answer.{answer_to, answer}
 use Rattle.planner.proofs.Claims as plans
-use Rattle.bank.specs.declared.Judged.{Judged}
+use Rattle.bank.specs.Judging.{Judged, standing_on, judged_by, judged, Blocks, blocks_of, judged_at, before, first_refused, starts_differ, blocks_verdict}
 use Rattle.bank.specs.Blocks.{length_of, part_of, bank_wrong}
-use Rattle.bank.specs.Judging.{standing_on, judged_by, judged, Blocks, blocks_of, judged_at, before, first_refused, starts_differ, blocks_verdict}
 use Rattle.bank.specs.Banks.{Progress, banked_if, bank_verdict, banked}
-use Rattle.decades.specs.declared.Tabled.{Tabled}
-use Rattle.decades.specs.declared.Tabled.TheVariants as table
-use Rattle.decades.specs.Table.{row_count, tabled}
-use Rattle.decades.specs.Table as definition
+use Rattle.decades.specs.Table.{Tabled, row_count, tabled}
+use Rattle.decades.specs.Table as table
 use Rattle.decades.proofs.Count.{rows_at_most}
 use Rattle.probes.specs.declared.Probe.{Probe}
-use Rattle.probes.specs.declared.Reading.{Reading}
-use Rattle.probes.specs.Contents.{reading_of}
-use Rattle.measuring.specs.declared.Probed.TheVariants as probed
+use Rattle.probes.specs.Contents.{Reading, reading_of}
+use Rattle.measuring.specs.Probing as probed
 use Rattle.measuring.specs.Probing.{probe_refusals, probed_unless, probed_from, probed_on}
 use Rattle.controller.specs.Calls.{planned_on, sheet_opened, sheet_recorded, sheet_lost, sheet_planned, sheet_probed, sheet_tabled}
 use Rattle.controller.specs.Roles.{opened_by, recorded_by, loss_by, planned_by, probed_by, banked_by, tabled_by, climate_written_by, block_written_by}
@@ -255,7 +245,7 @@ module _ (s : Season) (sown : AcceptedSeason s) (out : List ℕ) where
   unfolding tabled
   rows_few = go (ltb (length out) (row_count s * 6))
     where
-      go : (b : Bool) → SmallTabled (cond {A = Tabled × List ℕ} b (table.Refused 15 0, out) (table.Rows (row_count s), definition.table s ++ drop (row_count s * 6) out)).0
+      go : (b : Bool) → SmallTabled (cond {A = Tabled × List ℕ} b (table.Refused 15 0, out) (table.Rows (row_count s), table.table s ++ drop (row_count s * 6) out)).0
       go true = omega arith
       go false = omega (arith, rows_at_most s sown.valid)
 

@@ -6,36 +6,27 @@ use native.Mathlib.Omega.{arith}
 use borrow.Author.Tests.{ne_eqb}
 use lib.Ieee.{Float}
 use lib.ListN.{length, drop, take, replicate}
-use Rattle.verdict.specs.declared.Verdict.{Verdict}
-use Rattle.verdict.specs.declared.Verdict.TheVariants.{Accepted, Refused}
-use Rattle.journal.specs.declared.Opening.{Opening}
-use Rattle.journal.specs.declared.Opening.TheVariants as found
+use Rattle.verdict.specs.Refusals.{Verdict, Accepted, Refused, numbers_then, numbers_of}
+use Rattle.journal.specs.Opening.{Opening}
+use Rattle.journal.specs.Opening as found
 use Rattle.journal.specs.declared.Stores.{Stores}
-use Rattle.journal.specs.declared.Recorded.{Recorded}
-use Rattle.journal.specs.declared.Opened.{Opened}
-use Rattle.journal.specs.Opening as openings
+use Rattle.journal.specs.Calls.{Recorded, Opened}
 use Rattle.journal.proofs.Numbering.{opening_then}
-use Rattle.journal.specs.declared.Lost.{Lost}
-use Rattle.journal.specs.declared.Lost.TheVariants as losing
-use Rattle.journal.specs.Loss.{loss_numbers}
+use Rattle.journal.specs.Loss.{Lost, loss_numbers}
+use Rattle.journal.specs.Loss as losing
 use Rattle.journal.specs.Claims.{StoresOccur, CountOccurs, OpenedOccurs, Placed}
-use Rattle.planner.specs.declared.Planned.{Planned}
-use Rattle.planner.specs.declared.Planned.TheVariants as planned
-use Rattle.planner.specs.Answer as planner
-use Rattle.measuring.specs.declared.Probed.{Probed}
-use Rattle.measuring.specs.declared.Probed.TheVariants as probed
+use Rattle.planner.specs.Answer.{Planned}
+use Rattle.planner.specs.Answer as planned
+use Rattle.measuring.specs.Probing.{Probed, probed_numbers}
+use Rattle.measuring.specs.Probing as probed
 use Rattle.probes.specs.declared.Probe.TheVariants.{Silent}
-use Rattle.decades.specs.declared.Tabled.{Tabled}
-use Rattle.decades.specs.declared.Tabled.TheVariants as table
-use Rattle.decades.specs.Table as decades
-use Rattle.sheet.specs.declared.Written.{Written}
-use Rattle.sheet.specs.declared.Written.TheVariants as made
-use Rattle.sheet.specs.Writing as writer
+use Rattle.decades.specs.Table.{Tabled}
+use Rattle.decades.specs.Table as table
+use Rattle.sheet.specs.Writing.{Written}
+use Rattle.sheet.specs.Writing as made
 use Rattle.season.proofs.Stores.{at_start}
-use Rattle.measuring.specs.Probing.{probed_numbers}
 use Rattle.controller.specs.Roles.{opened_by, recorded_by, loss_by, planned_by, probed_by, banked_by, tabled_by, climate_written_by, block_written_by}
 use Rattle.controller.proofs.Claims as controller
-use Rattle.verdict.specs.Refusals.{numbers_then, numbers_of}
 use Rattle.answers.specs.Over.{out_length, written_over}
 use Rattle.exports.specs.Written.{with_ledger, opened_out}
 use Rattle.exports.specs.Kinds.{probe_of}
@@ -47,7 +38,7 @@ over_first ns out h = at_start ns out h
 
 -- ---- the array has room
 
-opening_length : (o : Opening) (r : Opened) → Placed r → length (openings.numbers_of o ++ with_ledger o (r.count ∷ r.places)) ≤ out_length
+opening_length : (o : Opening) (r : Opened) → Placed r → length (found.numbers_of o ++ with_ledger o (r.count ∷ r.places)) ≤ out_length
 opening_length (found.Clean l) r h = omega (arith, h.size)
 opening_length (found.Torn l place) r h = omega (arith, h.size)
 opening_length (found.Refused number value) r h = omega arith
@@ -60,7 +51,7 @@ verdict_length : (v : Verdict) → length (numbers_of v) ≤ out_length
 verdict_length Accepted = omega arith
 verdict_length (Refused number value) = omega arith
 
-planned_length : (p : Planned) → length (planner.numbers_of p) ≤ out_length
+planned_length : (p : Planned) → length (planned.numbers_of p) ≤ out_length
 planned_length (planned.Made days net gross) = omega arith
 planned_length (planned.Refused number value) = omega arith
 
@@ -68,11 +59,11 @@ probed_length : (r : Probed) → length (probed_numbers r) ≤ out_length
 probed_length (probed.Depletions ledger probes) = omega arith
 probed_length (probed.Refused number value) = omega arith
 
-tabled_length : (t : Tabled) → length (decades.numbers_of t) ≤ out_length
+tabled_length : (t : Tabled) → length (table.numbers_of t) ≤ out_length
 tabled_length (table.Rows count) = omega arith
 tabled_length (table.Refused number value) = omega arith
 
-written_length : (w : Written) → length (writer.numbers_of w) ≤ out_length
+written_length : (w : Written) → length (made.numbers_of w) ≤ out_length
 written_length (made.Made count) = omega arith
 written_length (made.Refused number value) = omega arith
 

@@ -4,12 +4,11 @@ use mathlib.Core.Path.{◌≡◌, refl, sym, ap, ap₂, subst, ◌∙◌}
 use mathlib.Core.List.{List, [], ◌∷◌, ◌++◌}
 use native.Mathlib.Omega.{arith}
 use lib.ListN.{length, get_or}
-use Rattle.verdict.specs.declared.Verdict.{Verdict}
-use Rattle.journal.specs.declared.Recorded.{Recorded}
-use Rattle.journal.specs.declared.Opening.{Opening}
-use Rattle.journal.specs.declared.Opened.{Opened}
+use Rattle.verdict.specs.Refusals.{Verdict}
+use Rattle.journal.specs.Calls.{Recorded, Opened}
+use Rattle.journal.specs.Opening.{Opening}
 use Rattle.probes.specs.declared.Probe.{Probe}
-use Rattle.measuring.specs.declared.Probed.{Probed}
+use Rattle.measuring.specs.Probing.{Probed}
 use Rattle.controller.specs.Roles.{opened_by, probed_by}
 use Rattle.controller.proofs.Claims.{claims}
 use Rattle.answers.specs.Over.{written_over}

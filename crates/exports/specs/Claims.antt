@@ -2,8 +2,7 @@
 use Rattle.std.specs.Prelude.{ℕ, ◌≤◌, Float, ◌≡◌, List, ◌++◌, length, drop}
 use Rattle.verdict.specs.Refusals as verdicts
 use Rattle.journal.specs.declared.Entry.{Entry}
-use Rattle.journal.specs.declared.Recorded.{Recorded}
-use Rattle.journal.specs.declared.Opened.{Opened}
+use Rattle.journal.specs.Calls.{Recorded, Opened}
 use Rattle.journal.specs.Loss.{loss_numbers}
 use Rattle.journal.specs.Claims.{RecordedOccurs, OpenedOccurs}
 use Rattle.planner.specs.Answer as planner

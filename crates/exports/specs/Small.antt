@@ -1,21 +1,19 @@
 -- No place, count or number returned with a refusal passes 8,192, so each fits 32 bits.
 use Rattle.std.specs.Prelude.{ℕ, ◌≤◌, get_or}
-use Rattle.verdict.specs.declared.Verdict.{Verdict}
-use Rattle.verdict.specs.declared.Verdict.TheVariants.{Accepted, Refused}
-use Rattle.journal.specs.declared.Opening.{Opening}
-use Rattle.journal.specs.declared.Opening.TheVariants as found
-use Rattle.journal.specs.declared.Recorded.{Recorded}
-use Rattle.journal.specs.declared.Opened.{Opened}
-use Rattle.journal.specs.declared.Lost.{Lost}
-use Rattle.journal.specs.declared.Lost.TheVariants as losing
-use Rattle.planner.specs.declared.Planned.{Planned}
-use Rattle.planner.specs.declared.Planned.TheVariants as planned
-use Rattle.measuring.specs.declared.Probed.{Probed}
-use Rattle.measuring.specs.declared.Probed.TheVariants as probed
-use Rattle.decades.specs.declared.Tabled.{Tabled}
-use Rattle.decades.specs.declared.Tabled.TheVariants as table
-use Rattle.sheet.specs.declared.Written.{Written}
-use Rattle.sheet.specs.declared.Written.TheVariants as writer
+use Rattle.verdict.specs.Refusals.{Verdict, Accepted, Refused}
+use Rattle.journal.specs.Opening.{Opening}
+use Rattle.journal.specs.Opening as found
+use Rattle.journal.specs.Calls.{Recorded, Opened}
+use Rattle.journal.specs.Loss.{Lost}
+use Rattle.journal.specs.Loss as losing
+use Rattle.planner.specs.Answer.{Planned}
+use Rattle.planner.specs.Answer as planned
+use Rattle.measuring.specs.Probing.{Probed}
+use Rattle.measuring.specs.Probing as probed
+use Rattle.decades.specs.Table.{Tabled}
+use Rattle.decades.specs.Table as table
+use Rattle.sheet.specs.Writing.{Written}
+use Rattle.sheet.specs.Writing as writer
 
 abbrev pub SmallVerdict : Verdict → Type 0
 SmallVerdict Accepted = Unit {0}

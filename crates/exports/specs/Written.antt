@@ -2,18 +2,15 @@
 -- returned with it, then the answer. A loss, a plan, a probe, a table and a sheet written have the numbering that stands beside them.
 use Rattle.std.specs.Prelude.{ℕ, List, [], ◌∷◌, ◌++◌}
 use Rattle.answers.specs.Over.{written_over}
-use Rattle.verdict.specs.declared.Verdict.{Verdict}
-use Rattle.verdict.specs.Refusals.{numbers_then, numbers_of}
-use Rattle.journal.specs.declared.Recorded.{Recorded}
-use Rattle.journal.specs.declared.Opening.{Opening}
-use Rattle.journal.specs.declared.Opening.TheVariants as found
-use Rattle.journal.specs.declared.Opened.{Opened}
-use Rattle.journal.specs.Opening as openings
-use Rattle.planner.specs.declared.Planned.{Planned}
+use Rattle.verdict.specs.Refusals.{Verdict, numbers_then, numbers_of}
+use Rattle.journal.specs.Calls.{Recorded, Opened}
+use Rattle.journal.specs.Opening.{Opening}
+use Rattle.journal.specs.Opening as found
+use Rattle.planner.specs.Answer.{Planned}
 use Rattle.planner.specs.Answer as planner
-use Rattle.decades.specs.declared.Tabled.{Tabled}
+use Rattle.decades.specs.Table.{Tabled}
 use Rattle.decades.specs.Table as decades
-use Rattle.sheet.specs.declared.Written.{Written}
+use Rattle.sheet.specs.Writing.{Written}
 use Rattle.sheet.specs.Writing as writer
 
 -- Numbers that stand beside a ledger alone: a refusal has none.
@@ -24,7 +21,7 @@ with_ledger (found.Refused number value) ns = []
 
 -- Open: what it found, then the count and three places, highest first, 0 past the count.
 abbrev pub opened_out : Opened → List ℕ
-opened_out r = openings.numbers_of r.opening ++ with_ledger r.opening (r.count ∷ r.places)
+opened_out r = found.numbers_of r.opening ++ with_ledger r.opening (r.count ∷ r.places)
 
 -- Rain, irrigation and close: the start, the count and four bytes, 0 past the count.
 abbrev pub recorded_out : Recorded → List ℕ

@@ -2,12 +2,14 @@
 // number (0 accepted or clean, 10 torn, else the refusal), the number returned with it, then the answer. Numbers beyond the answer stay.
 #![tactic(auto)]
 
-ghost use Rattle.std.specs.Prelude.{◌≡◌};
+ghost use Rattle.std.specs.Prelude.{◌≡◌, ◌≤◌, [], ◌∷◌};
+ghost use Rattle.verdict.specs.Refusals.{number_of, verdict_in};
 ghost use Rattle.verdict.specs.Refusals as verdicts;
 ghost use Rattle.journal.specs.declared.Entry.TheVariants.{Water, Close};
 ghost use Rattle.journal.specs.declared.Source.TheVariants.{Rain, Irrigation};
 ghost use Rattle.journal.specs.Loss.{loss_numbers};
-ghost use Rattle.planner.specs.Answer.{numbers_of};
+ghost use Rattle.planner.specs.Answer.{numbers_of, planned_in};
+ghost use Rattle.sheet.specs.Writing.{written_in};
 ghost use Rattle.sheet.specs.Writing as writer;
 ghost use Rattle.measuring.specs.Probing.{probed_numbers};
 ghost use Rattle.controller.specs.Roles.{opened_by, recorded_by, loss_by, planned_by, probed_by, banked_by, tabled_by, climate_written_by, block_written_by};
@@ -20,35 +22,40 @@ use answers::{
     OUT, put_depletions, put_losses, put_opening, put_refusal, put_size, put_stores, put_totals,
 };
 use bank::ANSWERS;
-use decades::Tabled;
-use journal::{Entry, Lost, Opening, Source};
-use measuring::Probed;
-use planner::Planned;
+use journal::{Entry, Opening, Source};
+use planner::Totals;
 use probes::Probe;
-use sheet::Written;
-use verdict::Verdict;
+use verdict::Refusal;
 
 // ---- an answer's numbers
 
+// A refusal: its number, and the number returned with it.
+fn put_refused(out: &mut [u32; OUT], r: Refusal)
+    requires { r.value ≤ 8192 }
+    ensures { out.new ≡ written_over (number_of r.reason ∷ r.value ∷ []) out.old }
+{
+    put_refusal(out, r.reason.number(), r.value);
+}
+
 // A plan by its case. (A function of its own: within the call it slows the pass over the days by a tenth.)
-fn put_planned(out: &mut [u32; OUT], p: Planned)
-    requires { SmallPlanned p }
-    ensures { out.new ≡ written_over (numbers_of p) out.old }
+fn put_planned(out: &mut [u32; OUT], p: Result<Totals, Refusal>)
+    requires { SmallPlanned (planned_in p) }
+    ensures { out.new ≡ written_over (numbers_of (planned_in p)) out.old }
 {
     match p {
-        Planned::Made(waterings, net, gross) => put_totals(out, waterings, net.0, gross.points()),
-        Planned::Refused(number, value) => put_refusal(out, number, value),
+        Ok(t) => put_totals(out, t.waterings, t.net.0, t.gross.points()),
+        Err(r) => put_refused(out, r),
     }
 }
 
 // A verdict alone.
-fn put_verdict(out: &mut [u32; OUT], v: Verdict)
-    requires { SmallVerdict v }
-    ensures { out.new ≡ written_over (verdicts.numbers_of v) out.old }
+fn put_verdict(out: &mut [u32; OUT], v: Result<(), Refusal>)
+    requires { SmallVerdict (verdict_in v) }
+    ensures { out.new ≡ written_over (verdicts.numbers_of (verdict_in v)) out.old }
 {
     match v {
-        Verdict::Accepted => put_refusal(out, 0, 0),
-        Verdict::Refused(number, value) => put_refusal(out, number, value),
+        Ok(()) => put_refusal(out, 0, 0),
+        Err(r) => put_refused(out, r),
     }
 }
 
@@ -56,24 +63,20 @@ fn put_verdict(out: &mut [u32; OUT], v: Verdict)
 fn put_entry(role: u32, climate: &[u8], block: &[u8], area: &[u8], e: Entry, out: &mut [u32; OUT])
     ensures { out.new ≡ written_over (recorded_out (recorded_by role climate.now block.now area.now e)) out.old }
 {
-    let recorded = controller::record(role, climate, block, area, e);
-    let verdict = recorded.verdict;
-    let stores = recorded.stores;
-    let bytes = stores.bytes;
-    match verdict {
-        Verdict::Accepted => put_stores(out, bytes, stores.start, stores.count),
-        Verdict::Refused(number, value) => put_refusal(out, number, value),
+    match controller::record(role, climate, block, area, e) {
+        Ok(stores) => put_stores(out, stores.bytes, stores.start, stores.count),
+        Err(r) => put_refused(out, r),
     }
 }
 
 // A writer's answer by its case.
-fn put_written(out: &mut [u32; OUT], w: Written)
-    requires { SmallWritten w }
-    ensures { out.new ≡ written_over (writer.numbers_of w) out.old }
+fn put_written(out: &mut [u32; OUT], w: Result<usize, Refusal>)
+    requires { SmallWritten (written_in w) }
+    ensures { out.new ≡ written_over (writer.numbers_of (written_in w)) out.old }
 {
     match w {
-        Written::Made(count) => put_size(out, count),
-        Written::Refused(number, value) => put_refusal(out, number, value),
+        Ok(count) => put_size(out, count),
+        Err(r) => put_refused(out, r),
     }
 }
 
@@ -94,13 +97,11 @@ fn put_block(role: u32, fields: [u32; 17], block: &mut [u8], out: &mut [u32; OUT
 fn probe_of(kind: u32, x: f32) -> Probe
     ensures { result ≡ probe_of kind x }
 {
-    if kind == 1 {
-        return Probe::Water(x);
+    match kind {
+        1 => Probe::Water(x),
+        2 => Probe::Low(x),
+        _ => Probe::Silent,
     }
-    if kind == 2 {
-        return Probe::Low(x);
-    }
-    Probe::Silent
 }
 
 // ---- the eleven calls
@@ -118,12 +119,11 @@ pub extern "C" fn balladsky_open(
     ensures { out.new ≡ written_over (opened_out (opened_by role climate.now block.now area.now)) out.old }
 {
     let opened = controller::open(role, climate, block, area);
-    let opening = opened.opening;
     let places = opened.places;
-    match opening {
+    match opened.opening {
         Opening::Clean(l) => put_opening(out, 0, 0, l, places, opened.count),
         Opening::Torn(l, place) => put_opening(out, 10, place, l, places, opened.count),
-        Opening::Refused(number, value) => put_refusal(out, number, value),
+        Opening::Refused(reason, value) => put_refused(out, Refusal { reason, value }),
     }
 }
 
@@ -198,8 +198,8 @@ pub extern "C" fn balladsky_loss(
     ensures { out.new ≡ written_over (loss_numbers (loss_by role climate.now block.now area.now ky)) out.old }
 {
     match controller::loss(role, climate, block, area, ky) {
-        Lost::Parts(p) => put_losses(out, p),
-        Lost::Refused(number, value) => put_refusal(out, number, value),
+        Ok(p) => put_losses(out, p),
+        Err(r) => put_refused(out, r),
     }
 }
 
@@ -238,8 +238,8 @@ pub extern "C" fn balladsky_probe(
     let above = probe_of(shallowkind, shallow);
     let below = probe_of(deepkind, deep);
     match controller::probe(role, climate, block, area, above, below, capacity) {
-        Probed::Depletions(ledger, measured) => put_depletions(out, ledger, measured),
-        Probed::Refused(number, value) => put_refusal(out, number, value),
+        Ok(d) => put_depletions(out, d.ledger, d.measured),
+        Err(r) => put_refused(out, r),
     }
 }
 
@@ -280,8 +280,8 @@ pub extern "C" fn balladsky_table(
     ensures { (out.new, rows.new) ≡ tabled_over out.old (tabled_by role climate.now block.now rows.old) }
 {
     match controller::table(role, climate, block, rows) {
-        Tabled::Rows(count) => put_size(out, count),
-        Tabled::Refused(number, value) => put_refusal(out, number, value),
+        Ok(count) => put_size(out, count),
+        Err(r) => put_refused(out, r),
     }
 }
 

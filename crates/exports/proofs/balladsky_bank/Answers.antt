@@ -2,8 +2,7 @@
 use Prim.Native.Nat.{ℕ}
 use mathlib.Core.Path.{ap}
 use mathlib.Core.List.{List}
-use Rattle.verdict.specs.declared.Verdict.{Verdict}
-use Rattle.verdict.specs.Refusals.{numbers_of}
+use Rattle.verdict.specs.Refusals.{Verdict, numbers_of}
 use Rattle.exports.proofs.Over.{three_by}
 use Rattle.exports.proofs.Bounds.{banked_small}
 use Rattle.exports.proofs.balladsky_bank.Goals as goal

@@ -2,8 +2,7 @@
 use Prim.Native.Nat.{ℕ}
 use mathlib.Core.Path.{refl, ap}
 use mathlib.Core.List.{List}
-use Rattle.planner.specs.declared.Planned.{Planned}
-use Rattle.planner.specs.Answer.{numbers_of}
+use Rattle.planner.specs.Answer.{Planned, numbers_of}
 use Rattle.exports.proofs.Over.{both_by}
 use Rattle.exports.proofs.Bounds.{planned_small}
 use Rattle.exports.proofs.balladsky_plan.Goals as goal

@@ -1,17 +1,18 @@
--- Test by test.
+-- Kind by kind.
 use mathlib.Core.Path.{sym}
+use native.Mathlib.Omega.{arith}
 use Rattle.exports.specs.Kinds.{probe_of}
 use borrow.Author.Tests.{eq-eqb, ne_eqb}
 use Rattle.exports.proofs.probe_of.Goals as goal
 
-pub returns-then-kind-eq1 : goal.returns-then-kind-eq1
+pub returns-in-1 : goal.returns-in-1
 unfolding probe_of
-returns-then-kind-eq1 c = sym (rw (eq-eqb c.args.kind 1 c.if-kind-eq1.true))
+returns-in-1 c = sym (rw (eq-eqb c.args.kind 1 c.in-1.is))
 
-pub returns-then-kind-eq2 : goal.returns-then-kind-eq2
+pub returns-in-2 : goal.returns-in-2
 unfolding probe_of
-returns-then-kind-eq2 c = sym (rw (ne_eqb c.args.kind 1 c.if-kind-eq1.false, eq-eqb c.args.kind 2 c.if-kind-eq2.true))
+returns-in-2 c = sym (rw (ne_eqb c.args.kind 1 (omega (arith, c.in-2.is)), eq-eqb c.args.kind 2 c.in-2.is))
 
-pub returns : goal.returns
+pub returns-in_default : goal.returns-in_default
 unfolding probe_of
-returns c = sym (rw (ne_eqb c.args.kind 1 c.if-kind-eq1.false, ne_eqb c.args.kind 2 c.if-kind-eq2.false))
+returns-in_default c = sym (rw (ne_eqb c.args.kind 1 (λ e. omega (arith, c.in_default, e)), ne_eqb c.args.kind 2 (λ e. omega (arith, c.in_default, e))))

@@ -2,8 +2,7 @@
 use Prim.Native.Nat.{ℕ}
 use mathlib.Core.Path.{refl, ap}
 use mathlib.Core.List.{List}
-use Rattle.sheet.specs.declared.Written.{Written}
-use Rattle.sheet.specs.Writing.{numbers_of}
+use Rattle.sheet.specs.Writing.{Written, numbers_of}
 use Rattle.exports.proofs.Over.{both_by}
 use Rattle.exports.proofs.Bounds.{climate_small}
 use borrow.Author.Rules.{rules}
