@@ -7,17 +7,17 @@ use borrow.Author.Tests.{lt-ltb, le-ltb}
 use lib.ListN.{length, take, drop}
 use lib.Seq.{sets, length-sets, take_at, length-take-le}
 use Rattle.leb128.proofs.Parts.{tail_part}
-use Rattle.verdict.specs.declared.Verdict.{Verdict}
-use Rattle.verdict.specs.declared.Verdict.TheVariants.{Accepted, Refused}
-use Rattle.decades.specs.Table.{rows_to, row_count, table, tabled}
-use Rattle.decades.specs.declared.Tabled.{Tabled}
-use Rattle.decades.specs.declared.Tabled.TheVariants.{Rows, Refused as Declined}
+use Rattle.std.specs.Prelude.{Result, Ok, Err}
+use Rattle.verdict.specs.declared.Refusal.{Refusal}
+use Rattle.verdict.specs.Refusals.{Verdict, Accepted, Refused, number_of}
+use Rattle.decades.specs.Table.{Tabled, Rows, Refused as Declined, rows_to, row_count, table, tabled, tabled_in}
 use Rattle.decades.proofs.Count.{rows_at_most}
 use Rattle.season.proofs.Stores.{at_start}
 use Rattle.decades.proofs.Rows.{length_flat}
 use Rattle.decades.proofs.Answers.{rows_refused, tabled_whole}
 use Rattle.sheet.specs.Sheets.{sheets_of, climate_end}
 use Rattle.sheet.proofs.Accepted.{accepted_season}
+use Rattle.sheet.proofs.Start.{climate_end_within}
 use Rattle.controller.specs.Calls.{on_sheets, sheet_tabled}
 use Rattle.controller.specs.Roles.{tabled_by}
 use Rattle.controller.proofs.Sheets.{sheets_refused, sheets_accepted}
@@ -43,9 +43,9 @@ module _ (climate block out : List ℕ) (long : length out ≡ 174) where
     pub few : k ≤ 29
     pub text : cells 0 (take (k * 6) l) ≡ sheets_printed climate block
 
-  pub rows_printed : (k : ℕ) (l : List ℕ) → (Rows k, l) ≡ tabled_by 1 climate block out → As-rows k l
+  rows_are : (k : ℕ) (l : List ℕ) → (Rows k, l) ≡ tabled_by 1 climate block out → As-rows k l
   unfolding on_sheets
-  rows_printed k l e = go (sheets_of climate block).verdict refl
+  rows_are k l e = go (sheets_of climate block).verdict refl
     where
       go : (v : Verdict) → (sheets_of climate block).verdict ≡ v → As-rows k l
       go Accepted v =
@@ -60,9 +60,12 @@ module _ (climate block out : List ℕ) (long : length out ≡ 174) where
           }
       go (Refused number value) v = absurd (rows_refused k number value (ap (λ (p : Tabled × List ℕ). p.0) (e ∙ looked ∙ refused number value v)))
 
-  pub refusal_printed : (number value : ℕ) (l : List ℕ) → (Declined number value, l) ≡ tabled_by 1 climate block out → cell number 0x20 ++ cell value 0x0a ≡ sheets_printed climate block
+  pub rows_printed : {r : Result ℕ Refusal} {k : ℕ} {l : List ℕ} → r ≡ Ok k → (tabled_in r, l) ≡ tabled_by 1 climate block out → As-rows k l
+  rows_printed {r} {k} {l} is e = rows_are k l (ap (λ (r : Result ℕ Refusal). (tabled_in r, l)) (sym is) ∙ e)
+
+  refusal_is : (number value : ℕ) (l : List ℕ) → (Declined number value, l) ≡ tabled_by 1 climate block out → cell number 0x20 ++ cell value 0x0a ≡ sheets_printed climate block
   unfolding on_sheets
-  refusal_printed number value l e = go (sheets_of climate block).verdict refl
+  refusal_is number value l e = go (sheets_of climate block).verdict refl
     where
       go : (v : Verdict) → (sheets_of climate block).verdict ≡ v → cell number 0x20 ++ cell value 0x0a ≡ sheets_printed climate block
       go Accepted v = absurd (rows_refused _ number value (sym (ap (λ (p : Tabled × List ℕ). p.0) (e ∙ looked ∙ accepted v))))
@@ -71,6 +74,16 @@ module _ (climate block out : List ℕ) (long : length out ≡ 174) where
           let i : number ≡ m = cc in
           let j : value ≡ w = cc in
           rw (v, i, j)
+
+  pub refusal_printed : {r : Result ℕ Refusal} {why : Refusal} {number : ℕ} {l : List ℕ} → r ≡ Err why → number ≡ number_of why.reason
+      → (tabled_in r, l) ≡ tabled_by 1 climate block out → cell number 0x20 ++ cell why.value 0x0a ≡ sheets_printed climate block
+  refusal_printed {r} {why} {number} {l} is n e =
+      refusal_is number why.value l
+      (ap (λ (k : ℕ). (Declined k why.value, l)) n ∙ ap (λ (r : Result ℕ Refusal). (tabled_in r, l)) (sym is) ∙ e)
+
+-- A climate sheet ends within the input.
+pub ends_within : (input : List ℕ) (at : ℕ) → at ≡ climate_end input → at ≤ length input
+ends_within input at e = rw e (climate_end_within input)
 
 -- What is printed of the two parts of an input, cut where its climate sheet ends.
 pub of_parts : (input : List ℕ) (at : ℕ) → at ≡ climate_end input → sheets_printed (take at input) (take (length input - at) (drop at input)) ≡ printed input

@@ -5,8 +5,6 @@ ghost use Rattle.std.specs.Prelude.{◌≡◌, ◌+◌, ◌*◌, ◌≤◌, leng
 ghost use Rattle.std.proofs.lemmas.List.Edits.{sets};
 ghost use Rattle.printed.specs.Text.{decimal, cell, ending, cells, printed_to};
 
-use decades::Tabled;
-
 // Writes n's decimal digits from place at on; the place after them.
 fn put_decimal(text: &mut [u8], at: usize, n: u64) -> usize
     requires { at + length (decimal n) ≤ length text.old }
@@ -46,10 +44,8 @@ fn put_cells(text: &mut [u8], rows: &[u32], count: usize) -> usize
         × (result ≤ count * 11) }
 {
     let mut at: usize = 0;
-    let mut i: usize = 0;
-    while i < count {
-        at = put_cell(text, at, rows[i] as u64, ending_of(i));
-        i += 1;
+    for (i, n) in rows[..count].iter().enumerate() {
+        at = put_cell(text, at, *n as u64, ending_of(i));
     }
     at
 }
@@ -67,10 +63,10 @@ pub fn print_table(input: &[u8], text: &mut [u8]) -> usize
     let mut rows = [0u32; decades::MOST_NUMBERS];
     let at = sheet::climate_end(input);
     match controller::table(1, &input[..at], &input[at..], &mut rows) {
-        Tabled::Rows(count) => put_cells(text, &rows, count * 6),
-        Tabled::Refused(number, value) => {
-            let next = put_cell(text, 0, number as u64, 32);
-            put_cell(text, next, value as u64, 10)
+        Ok(count) => put_cells(text, &rows, count * 6),
+        Err(refusal) => {
+            let next = put_cell(text, 0, refusal.reason.number() as u64, 32);
+            put_cell(text, next, refusal.value as u64, 10)
         }
     }
 }

@@ -1,34 +1,34 @@
 -- `printed::put_cells` meets its contract: the loop is `Printing` of proofs/Texts.antt.
+use mathlib.Core.List.{List}
+use Prim.Native.Nat.{ℕ, ◌^◌, ◌<◌}
 use native.Mathlib.Omega.{arith}
+use lib.ListN.{length, take, get_or, length-take}
+use Rattle.std.proofs.lemmas.List.{get_or-take}
 use Rattle.printed.proofs.Texts.{printing_start, printing_length, printing_room, printing_more, printing_end}
 use Rattle.printed.proofs.put_cells.Goals as goal
 
+-- A number of the first so many is one of all.
+small : (count i : ℕ) (rows : List ℕ) → i < length (take count rows) → get_or rows i 0 < 2 ^ 32 → get_or (take count rows) i 0 < 2 ^ 32
+small count i rows h f =
+    let k : i < count = omega (arith, length-take count rows) in
+    rw (get_or-take count rows i 0 k) f
+
 pub loop-i-init : goal.loop-i-init
-loop-i-init c = printing_start _ _ _ c.requires.0 c.requires.1 (λ k. (c.shared_slice_known-1.given k).fits)
-
-pub offset_bounds-rows-i : goal.offset_bounds-rows-i
-offset_bounds-rows-i c = record { fits = omega (arith, c.loop-i.invariant.few, c.loop-i.invariant.within, c.well_formed) }
-
-pub bounds-rows-i : goal.bounds-rows-i
-bounds-rows-i c = omega (arith, c.loop-i.invariant.within, c.loop-i-test.true)
-
-pub overflow_cast-rows : goal.overflow_cast-rows
-overflow_cast-rows c = record { fits = omega (arith, c.loop-i.invariant.small c.loop-i.i) }
+loop-i-init c = printing_start _ _ (omega (arith, c.requires.1, length-take c.args.count c.args.rows.now))
 
 pub put_cell-at-requires : goal.put_cell-at-requires
-put_cell-at-requires c = printing_room c.loop-i.invariant c.loop-i-test.true c.ending_of.result
-
-pub overflow_add-i : goal.overflow_add-i
-overflow_add-i c = record { fits = omega (arith, c.loop-i-test.true, c.loop-i.invariant.within) }
-
-pub loop-i-smaller : goal.loop-i-smaller
-loop-i-smaller c = omega (arith, c.loop-i-test.true)
+put_cell-at-requires c =
+    printing_room c.loop-i.invariant c.loop-i-test.true (small c.args.count c.loop-i.i c.args.rows.now c.loop-i-test.true (c.type_inv.rows c.loop-i.i).fits) c.ending_of.result
 
 pub loop-i-preserved : goal.loop-i-preserved
-loop-i-preserved c = printing_more c.loop-i.invariant c.loop-i-test.true c.ending_of.ensures c.put_cell-at.ensures.0 c.put_cell-at.ensures.1
+loop-i-preserved c =
+    printing_more c.loop-i.invariant c.loop-i-test.true (small c.args.count c.loop-i.i c.args.rows.now c.loop-i-test.true (c.type_inv.rows c.loop-i.i).fits)
+    c.ending_of.ensures c.put_cell-at.ensures.0 c.put_cell-at.ensures.1
 
 pub shape_of-text : goal.shape_of-text
 shape_of-text c = printing_length c.loop-i.invariant
 
 pub returns : goal.returns
-returns c = printing_end c.loop-i.invariant c.loop-i-test.false
+returns c =
+    let printed = printing_end c.loop-i.invariant c.loop-i-test.false in
+    (printed.0, printed.1, omega (arith, printed.2, length-take c.args.count c.args.rows.now))
