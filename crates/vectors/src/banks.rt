@@ -1,23 +1,19 @@
 // What bank answers (document 02, T-10): its verdict, or a number of `answers` or `depths`, which are all 8 and all 7
 // before the call.
-ghost use Rattle.std.specs.Prelude.{◌≡◌, ◌≤◌, length, take};
-
 use crate::{rules, sheets, text, writing};
 use bank::ANSWERS;
-use trial::{get, put_behind, saturating_add};
+use trial::{count, get, put_behind};
 
 // Sets numbers of a block, by the threes behind a line's first fourteen numbers: the block, counted from 1, which number,
 // counted from 1, and its value.
 fn set_own(own: &mut [u32], numbers: &[u32], block: u32) {
-    let mut three: usize = 0;
-    while three < 27 {
+    for three in 0..27 {
         let field = if get(numbers, 14 + 3 * three) == block {
             get(numbers, 15 + 3 * three)
         } else {
             0
         };
         rules::set_field(own, field, get(numbers, 16 + 3 * three));
-        three += 1;
     }
 }
 
@@ -34,10 +30,8 @@ fn own_numbers(fields: [u32; 41], numbers: &[u32], block: u32) -> [u32; 52] {
 }
 
 fn put_journal(own: &[u32], areas: &mut [u8], from: usize) {
-    let mut i: usize = 0;
-    while i < 8 {
+    for i in 0..8 {
         put_behind(areas, from, i, text::byte(get(own, 44 + i)));
-        i += 1;
     }
 }
 
@@ -49,42 +43,21 @@ fn lay_blocks(
     sheets: &mut [u8],
     areas: &mut [u8],
 ) {
-    let mut sheet_at: u64 = 0;
-    let mut area_at: u64 = 0;
-    let mut k: u32 = 0;
-    while k < 41 {
+    let mut sheet_at: usize = 0;
+    let mut area_at: usize = 0;
+    for k in 0..41u32 {
         let own = own_numbers(fields, numbers, k + 1);
         writing::copy(&own, 41, lengths, 3 * k as usize, 3);
-        sheets::put_block(&own, sheets, sheet_at as usize);
-        put_journal(&own, areas, area_at as usize);
-        sheet_at = saturating_add(sheet_at, get(&own, 41) as u64);
-        area_at = saturating_add(area_at, get(&own, 42) as u64);
-        k += 1;
+        sheets::put_block(&own, sheets, sheet_at);
+        put_journal(&own, areas, area_at);
+        sheet_at = sheet_at.saturating_add(get(&own, 41) as usize);
+        area_at = area_at.saturating_add(get(&own, 42) as usize);
     }
 }
 
 // How many numbers are no longer what all were.
 fn changed(numbers: &[u32], was: u32) -> u64 {
-    let mut count: u64 = 0;
-    let mut i: usize = 0;
-    while i < numbers.len() {
-        if numbers[i] != was {
-            count = saturating_add(count, 1);
-        }
-        i += 1;
-    }
-    count
-}
-
-// So many of a buffer's numbers, at most all.
-fn count(n: u32, buffer: &[u32]) -> usize
-    ensures { (result ≤ length buffer.now) × (result ≡ length (take result buffer.now)) }
-{
-    if n as usize <= buffer.len() {
-        n as usize
-    } else {
-        buffer.len()
-    }
+    numbers.iter().filter(|n| **n != was).count() as u64
 }
 
 // 0 the verdict: 0, or the refusal's number × 1000 and the number returned with it; 1 and 2 the number at a place of
@@ -98,7 +71,7 @@ fn asked(
     depths: &mut [u32],
     answers: &mut [u32; ANSWERS],
 ) -> u64 {
-    let verdict = controller::bank(
+    let answer = controller::bank(
         get(numbers, 6),
         climate,
         get(numbers, 8),
@@ -111,10 +84,10 @@ fn asked(
     );
     let place = get(numbers, 5) as usize;
     match get(numbers, 4) {
-        0 => sheets::verdict_code(verdict),
+        0 => sheets::code(answer),
         1 => get(answers, place) as u64,
         2 => get(depths, place) as u64,
-        _ => saturating_add(changed(answers, 8), changed(depths, 7)),
+        _ => changed(answers, 8).saturating_add(changed(depths, 7)),
     }
 }
 
@@ -127,11 +100,11 @@ pub fn number_of(climate: &[u8], fields: [u32; 41], numbers: &[u32]) -> u64 {
     let mut depths = [7u32; 210];
     let mut answers = [8u32; ANSWERS];
     lay_blocks(fields, numbers, &mut lengths, &mut sheets, &mut areas);
-    let c = trial::count(get(numbers, 7) as u64, climate);
-    let l = count(get(numbers, 10), &lengths);
-    let s = trial::count(get(numbers, 11) as u64, &sheets);
-    let a = trial::count(get(numbers, 12) as u64, &areas);
-    let d = count(get(numbers, 13), &depths);
+    let c = count(get(numbers, 7) as u64, climate);
+    let l = count(get(numbers, 10) as u64, &lengths);
+    let s = count(get(numbers, 11) as u64, &sheets);
+    let a = count(get(numbers, 12) as u64, &areas);
+    let d = count(get(numbers, 13) as u64, &depths);
     asked(
         &climate[..c],
         numbers,

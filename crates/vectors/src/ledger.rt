@@ -1,33 +1,24 @@
 // Days closed one after another, from their lines: a line that starts with '+' is a day.
+use crate::sheets::{Lent, Sheets};
 use crate::{roles, rules, sheets};
-use journal::{Ledger, Losses, Lost, Opening, Stages};
+use journal::{Ledger, Losses, Opening, Stages, Stores};
 use trial::{get, put};
-
-fn sum(a: u32, b: u32) -> u32 {
-    trial::narrow(trial::saturating_add(a as u64, b as u64))
-}
+use verdict::Refusal;
 
 // Adds to a number of a balance.
 fn add(balance: &mut [u32], at: usize, n: u32) {
-    let next = sum(get(balance, at), n);
+    let next = get(balance, at).saturating_add(n);
     put(balance, at, next);
 }
 
 // Closes a day by the rule alone, with a need, rain and irrigation of its own, total and ready water the sheets'.
 // A balance is: days closed, depletion, used, percolated, rain, irrigation.
-pub fn close_day(
-    climate: &[u8],
-    block: &[u8],
-    balance: &mut [u32],
-    need: u32,
-    rain: u32,
-    irrigation: u32,
-) {
+pub fn close_day(sheets: Sheets, balance: &mut [u32], need: u32, rain: u32, irrigation: u32) {
     add(balance, 0, 1);
-    let t = sheets::day_numbers(climate, block, get(balance, 0));
+    let t = sheets.day(get(balance, 0));
     let done = rules::close(
         get(balance, 1),
-        sum(rain, irrigation),
+        rain.saturating_add(irrigation),
         need,
         t.total,
         t.ready,
@@ -46,39 +37,35 @@ fn add_totals(balance: &mut [u32], used: u32, percolated: u32, rain: u32, irriga
 // No call hands back more stores.
 const ALL: usize = 4;
 
-fn enter_rain(climate: &[u8], block: &[u8], area: &mut [u8], amount: u32) {
-    if amount == 0 {
-        return;
+// Does the stores of an entry that is accepted.
+fn enter(area: &mut [u8], answer: Result<Stores, Refusal>) {
+    if let Ok(stores) = answer {
+        trial::store(area, stores, ALL);
     }
-    let r = controller::rain(roles::RECORD, climate, block, area, amount);
-    trial::store(area, r, ALL);
-}
-
-fn enter_irrigation(climate: &[u8], block: &[u8], area: &mut [u8], amount: u32) {
-    if amount == 0 {
-        return;
-    }
-    let r = controller::irrigation(roles::RECORD, climate, block, area, amount);
-    trial::store(area, r, ALL);
-}
-
-fn enter_close(climate: &[u8], block: &[u8], area: &mut [u8]) {
-    let r = controller::close(roles::RECORD, climate, block, area);
-    trial::store(area, r, ALL);
 }
 
 // A day by the calls: rain and irrigation where there is any, and the close.
-pub fn record_day(climate: &[u8], block: &[u8], area: &mut [u8], rain: u32, irrigation: u32) {
-    enter_rain(climate, block, area, rain);
-    enter_irrigation(climate, block, area, irrigation);
-    enter_close(climate, block, area);
+pub fn record_day(sheets: Sheets, area: &mut [u8], rain: u32, irrigation: u32) {
+    let Sheets { climate, block } = sheets;
+    if rain != 0 {
+        let answer = controller::rain(roles::RECORD, climate, block, area, rain);
+        enter(area, answer);
+    }
+    if irrigation != 0 {
+        let answer = controller::irrigation(roles::RECORD, climate, block, area, irrigation);
+        enter(area, answer);
+    }
+    let answer = controller::close(roles::RECORD, climate, block, area);
+    enter(area, answer);
 }
 
 fn stage_number(p: Stages, which: u32) -> u64 {
-    let initial = p.initial;
-    let development = p.development;
-    let middle = p.middle;
-    let late = p.late;
+    let Stages {
+        initial,
+        development,
+        middle,
+        late,
+    } = p;
     match which {
         11 => initial.need as u64,
         12 => initial.used as u64,
@@ -92,7 +79,6 @@ fn stage_number(p: Stages, which: u32) -> u64 {
 }
 
 fn ledger_number(l: Ledger, which: u32) -> u64 {
-    let stages = l.stages;
     match which {
         1 => l.day as u64,
         2 => l.depletion as u64,
@@ -104,7 +90,7 @@ fn ledger_number(l: Ledger, which: u32) -> u64 {
         8 => l.percolation as u64,
         9 => l.place as u64,
         10 => l.need as u64,
-        _ => stage_number(stages, which),
+        _ => stage_number(l.stages, which),
     }
 }
 
@@ -117,12 +103,6 @@ pub fn number_in(o: Opening, which: u32) -> u64 {
         Opening::Torn(l, _) => ledger_number(l, which),
         Opening::Refused(_, _) => 0,
     }
-}
-
-fn opened(climate: &[u8], block: &[u8], area: &[u8], which: u32) -> u64 {
-    let r = controller::open(roles::MEND, climate, block, area);
-    let o = r.opening;
-    number_in(o, which)
 }
 
 fn loss_number(p: Losses, which: u32) -> u64 {
@@ -138,17 +118,18 @@ fn loss_number(p: Losses, which: u32) -> u64 {
 
 // A number of what loss answers: 19 whether it refuses, 20 the season's, 21 to 24 the stages'. Where it refuses, all are
 // the refusal's number × 1000 and the number returned with it.
-pub fn loss_by(role: u32, climate: &[u8], block: &[u8], area: &[u8], which: u32, ky: u32) -> u64 {
-    match controller::loss(role, climate, block, area, ky) {
-        Lost::Parts(p) => loss_number(p, which),
-        Lost::Refused(number, value) => sheets::refusal_code(number, value),
+pub fn loss_by(role: u32, lent: Lent, which: u32, ky: u32) -> u64 {
+    let Sheets { climate, block } = lent.sheets;
+    match controller::loss(role, climate, block, lent.area, ky) {
+        Ok(p) => loss_number(p, which),
+        Err(refusal) => sheets::refusal_code(refusal),
     }
 }
 
 // A number of the opening, up to 18, or of the loss by a Ky.
-pub fn number_of(climate: &[u8], block: &[u8], area: &[u8], which: u32, ky: u32) -> u64 {
+pub fn number_of(lent: Lent, which: u32, ky: u32) -> u64 {
     if which < 19 {
-        return opened(climate, block, area, which);
+        return number_in(roles::open(roles::MEND, lent).opening, which);
     }
-    loss_by(roles::LOOK, climate, block, area, which, ky)
+    loss_by(roles::LOOK, lent, which, ky)
 }

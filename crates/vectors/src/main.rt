@@ -23,7 +23,7 @@ mod writing;
 use std::io::Print;
 use std::rt::Files;
 use std::{fs, io};
-use trial::{get, put, put_byte, saturating_add};
+use trial::{get, put};
 
 // How many figures were compared, how many of them differ for a known reason, and how many are not as they should be.
 #[derive(Clone, Copy)]
@@ -40,10 +40,6 @@ enum Outcome {
     Agrees,
     Differs,
     Mismatch,
-}
-
-fn distance(a: u64, b: u64) -> u64 {
-    if a < b { b - a } else { a - b }
 }
 
 fn tally_of(figures: u64, known: u64, wrong: u64) -> Tally {
@@ -67,9 +63,9 @@ fn counted(o: Outcome) -> Tally {
 impl Tally {
     fn and(self, t: Tally) -> Tally {
         Tally {
-            figures: saturating_add(self.figures, t.figures),
-            known: saturating_add(self.known, t.known),
-            wrong: saturating_add(self.wrong, t.wrong),
+            figures: self.figures.saturating_add(t.figures),
+            known: self.known.saturating_add(t.known),
+            wrong: self.wrong.saturating_add(t.wrong),
         }
     }
 
@@ -130,7 +126,7 @@ fn as_stated(numbers: &[u32], off: u64) -> bool {
 
 // Compares the figure of a line with the product's answer.
 fn compared(rt: &impl Print, line: &[u8], numbers: &[u32], got: u64) -> io::Result<Outcome> {
-    if !as_stated(numbers, distance(got, get(numbers, 0) as u64)) {
+    if !as_stated(numbers, got.abs_diff(get(numbers, 0) as u64)) {
         print_mismatch(rt, line, numbers, got)?;
         return Ok(Outcome::Mismatch);
     }
@@ -163,7 +159,7 @@ fn run_numbers(
 }
 
 fn starts_with(line: &[u8], b: u8) -> bool {
-    trial::get_byte(line, 0) == b
+    line.first() == Some(&b)
 }
 
 // The journal that a line of sheets asks for: blank but for the bytes that stand there.
@@ -171,10 +167,7 @@ fn lay_journal(line: &[u8], area: &mut [u8; 1024]) {
     let mut numbers = [255u32; 44];
     text::read_numbers(line, &mut numbers);
     *area = [255; 1024];
-    put_byte(area, 0, text::byte(get(&numbers, 40)));
-    put_byte(area, 1, text::byte(get(&numbers, 41)));
-    put_byte(area, 2, text::byte(get(&numbers, 42)));
-    put_byte(area, 3, text::byte(get(&numbers, 43)));
+    text::lay_bytes(&numbers, 40, &mut area[..4]);
 }
 
 // A line that starts with '=' has new sheets, on which no day is closed.
@@ -186,10 +179,7 @@ fn run_line(
     balance: &mut [u32; 6],
     area: &mut [u8; 1024],
 ) -> io::Result<Outcome> {
-    if line.len() == 0 {
-        return Ok(Outcome::Nothing);
-    }
-    if starts_with(line, b'#') {
+    if line.is_empty() || starts_with(line, b'#') {
         return Ok(Outcome::Nothing);
     }
     if starts_with(line, b'=') {

@@ -1,7 +1,8 @@
 // What the product answers of soil probes, by the bits of their values.
+use crate::sheets::{Lent, Sheets};
 use crate::{roles, sheets};
-use measuring::Probed;
-use probes::{Probe, Reading};
+use measuring::Depletions;
+use probes::{NoContent, Probe};
 use trial::get;
 
 // A float by the upper and the lower sixteen bits of its pattern. A proved program makes no NaN of bits: each NaN's
@@ -29,28 +30,37 @@ pub fn reading(numbers: &[u32]) -> u64 {
     let shallow = probe_of(get(numbers, 4), get(numbers, 5), get(numbers, 6));
     let deep = probe_of(get(numbers, 7), get(numbers, 8), get(numbers, 9));
     match probes::reading_of(shallow, deep) {
-        Reading::Content(v) => v as u64,
-        Reading::Wrong => 18000,
-        Reading::Nothing => 19000,
+        Ok(content) => content as u64,
+        Err(NoContent::Wrong) => 18000,
+        Err(NoContent::Nothing) => 19000,
     }
 }
 
 // A number of what probe answers: 0 whether it refuses, 1 the ledger's depletion, 2 the measured one. Where it refuses,
 // all are the refusal's number × 1000 and the number returned with it.
-pub fn number_of(climate: &[u8], block: &[u8], area: &[u8], numbers: &[u32]) -> u64 {
+pub fn number_of(lent: Lent, numbers: &[u32]) -> u64 {
+    let Sheets { climate, block } = lent.sheets;
     let shallow = probe_of(get(numbers, 5), get(numbers, 6), get(numbers, 7));
     let deep = probe_of(get(numbers, 8), get(numbers, 9), get(numbers, 10));
     let capacity = get(numbers, 11);
-    match controller::probe(roles::LOOK, climate, block, area, shallow, deep, capacity) {
-        Probed::Depletions(ledger, measured) => depletion(get(numbers, 4), ledger, measured),
-        Probed::Refused(number, value) => sheets::refusal_code(number, value),
+    match controller::probe(
+        roles::LOOK,
+        climate,
+        block,
+        lent.area,
+        shallow,
+        deep,
+        capacity,
+    ) {
+        Ok(depletions) => depletion(get(numbers, 4), depletions),
+        Err(refusal) => sheets::refusal_code(refusal),
     }
 }
 
-fn depletion(which: u32, ledger: u32, measured: u32) -> u64 {
+fn depletion(which: u32, depletions: Depletions) -> u64 {
     match which {
-        1 => ledger as u64,
-        2 => measured as u64,
+        1 => depletions.ledger as u64,
+        2 => depletions.measured as u64,
         _ => 0,
     }
 }

@@ -1,9 +1,10 @@
 // What the product answers for a line of numbers. Its first four are the printed figure, the tolerance, the reason and
 // the deviation; inputs follow. Where a rule asks about a season, two numbers follow (a day, or a row and a column) and
 // then fields of the sheets with their values.
-use crate::{banks, ledger, probing, roles, sheets, text, writing};
+use crate::sheets::{Lent, SheetBytes, Sheets};
+use crate::{banks, ledger, probing, roles, writing};
 use season::{DayClose, Net};
-use trial::{get, get_byte, put};
+use trial::{get, put};
 
 // Effective rain of a month, by its rain.
 pub const RAIN: u32 = 1;
@@ -105,13 +106,7 @@ fn rain(q: u32) -> u64 {
 }
 
 fn gross(net: u32, efficiency: u32) -> u64 {
-    if efficiency < 1 {
-        return 0;
-    }
-    if 100 < efficiency {
-        return 0;
-    }
-    if 40000000 < net {
+    if !(1..=100).contains(&efficiency) || 40000000 < net {
         return 0;
     }
     season::gross_of(efficiency, Net(net)).points() as u64
@@ -119,16 +114,8 @@ fn gross(net: u32, efficiency: u32) -> u64 {
 
 // Closing a day, or nothing used where the numbers are of no season.
 pub fn close(depletion: u32, water: u32, need: u32, total: u32, ready: u32) -> DayClose {
-    if depletion <= total {
-        if ready < total {
-            if total <= 120000 {
-                if water <= 240000 {
-                    if need <= 3000 {
-                        return season::close_day(depletion, water, need, total, ready);
-                    }
-                }
-            }
-        }
+    if depletion <= total && ready < total && total <= 120000 && water <= 240000 && need <= 3000 {
+        return season::close_day(depletion, water, need, total, ready);
     }
     DayClose {
         need,
@@ -140,10 +127,7 @@ pub fn close(depletion: u32, water: u32, need: u32, total: u32, ready: u32) -> D
 
 // Yield lost, or 0 where more is used than needed or Ky is out of range.
 fn loss(ky: u32, need: u32, used: u32) -> u64 {
-    if 200 < ky {
-        return 0;
-    }
-    if need < used {
+    if 200 < ky || need < used {
         return 0;
     }
     season::loss_of(ky, need, used) as u64
@@ -169,14 +153,12 @@ fn percent(part: u32, total: u32) -> u64 {
 
 // Sets fields of the sheets, by the pairs behind a line's first six numbers: a field, counted from 1, and its value.
 pub fn set_fields(fields: &mut [u32], numbers: &[u32]) {
-    let mut pair: usize = 0;
-    while pair < 45 {
+    for pair in 0..45 {
         set_field(
             fields,
             get(numbers, 6 + 2 * pair),
             get(numbers, 7 + 2 * pair),
         );
-        pair += 1;
     }
 }
 
@@ -187,23 +169,23 @@ pub fn set_field(fields: &mut [u32], field: u32, value: u32) {
 }
 
 // A figure of a season, from its sheets.
-fn of_sheets(rule: u32, climate: &[u8], block: &[u8], a: u32, b: u32) -> u64 {
+fn of_sheets(rule: u32, sheets: Sheets, a: u32, b: u32) -> u64 {
     match rule {
-        REFUSAL => sheets::refusal(climate, block),
-        LENGTH => sheets::day_numbers(climate, block, 1).days as u64,
-        KC => sheets::day_numbers(climate, block, a).kc,
-        NEED => rounded(sheets::day_numbers(climate, block, a).need, b),
-        TOTAL => sheets::day_numbers(climate, block, a).total as u64,
-        READY => sheets::day_numbers(climate, block, a).ready as u64,
-        DATE => sheets::day_numbers(climate, block, a).date,
-        HELD => sheets::days_held(climate, block),
-        CELL => sheets::cell(climate, block, a, b) as u64,
-        SUM => sheets::column_sum(climate, block, a),
-        ROWS => sheets::rows(climate, block) as u64,
-        MEAN_KC => sheets::mean_kc(climate, block, a, b),
-        PERCENT => percent(b, sheets::day_numbers(climate, block, a).total),
-        PLAN => sheets::plan_number(climate, block, a),
-        DEPTH => sheets::depth(climate, block, a),
+        REFUSAL => sheets.refusal(),
+        LENGTH => sheets.day(1).days as u64,
+        KC => sheets.day(a).kc,
+        NEED => rounded(sheets.day(a).need, b),
+        TOTAL => sheets.day(a).total as u64,
+        READY => sheets.day(a).ready as u64,
+        DATE => sheets.day(a).date,
+        HELD => sheets.days_held(),
+        CELL => sheets.cell(a, b) as u64,
+        SUM => sheets.column_sum(a),
+        ROWS => sheets.row_count() as u64,
+        MEAN_KC => sheets.mean_kc(a, b),
+        PERCENT => percent(b, sheets.day(a).total),
+        PLAN => sheets.plan_number(a),
+        DEPTH => sheets.depth(a),
         _ => 0,
     }
 }
@@ -221,25 +203,8 @@ fn of_fields(rule: u32, own: [u32; 41], a: u32, b: u32) -> u64 {
         CLIMATE => writing::climate_in_room(roles::LOOK, own, a, b),
         BLOCK => writing::block_in_room(roles::LOOK, own, a, b),
         WRITE => writing::refusal(own),
-        _ => {
-            let mut climate = [0u8; 73];
-            let mut block = [0u8; 52];
-            let n = trial::count(sheets::write_climate(own, &mut climate), &climate);
-            let m = trial::count(sheets::write_block(own, &mut block), &block);
-            of_sheets(rule, &climate[..n], &block[..m], a, b)
-        }
+        _ => of_sheets(rule, SheetBytes::of_fields(own).sheets(), a, b),
     }
-}
-
-// What two sheets answer, of so many bytes each, which stand behind a line's first six numbers.
-fn of_bytes(numbers: &[u32], a: u32, b: u32) -> u64 {
-    let mut climate = [0u8; 73];
-    let mut block = [0u8; 52];
-    text::lay_bytes(numbers, 6, &mut climate);
-    text::lay_bytes(numbers, trial::saturating_add(6, a as u64), &mut block);
-    let n = trial::count(a as u64, &climate);
-    let m = trial::count(b as u64, &block);
-    sheets::refusal(&climate[..n], &block[..m])
 }
 
 // The product's answer, by the line's numbers and the sheets that stand.
@@ -249,11 +214,11 @@ pub fn answer(rule: u32, numbers: &[u32], fields: [u32; 41]) -> u64 {
     match rule {
         RAIN => rain(a),
         GROSS => gross(a, b),
-        NET => season::saturating_sub(a, b) as u64,
+        NET => a.saturating_sub(b) as u64,
         USE => close(a, 0, b, get(numbers, 6), get(numbers, 7)).used as u64,
         LOSS => loss(a, b, get(numbers, 6)),
         CONTENT => probing::reading(numbers),
-        BYTES => of_bytes(numbers, a, b),
+        BYTES => SheetBytes::of_bytes(numbers, a, b).sheets().refusal(),
         _ => of_fields(rule, own_fields(fields, numbers), a, b),
     }
 }
@@ -270,34 +235,22 @@ pub fn answer_after_days(
     if rule == BALANCE {
         return get(balance, get(numbers, 4) as usize) as u64;
     }
-    let mut climate = [0u8; 73];
-    let mut block = [0u8; 52];
-    let n = trial::count(sheets::write_climate(fields, &mut climate), &climate);
-    let m = trial::count(sheets::write_block(fields, &mut block), &block);
-    if rule == BANK {
-        return banks::number_of(&climate[..n], fields, numbers);
+    let bytes = SheetBytes::of_fields(fields);
+    let lent = bytes.with_area(area);
+    match rule {
+        BANK => banks::number_of(lent.sheets.climate, fields, numbers),
+        PROBE => probing::number_of(lent, numbers),
+        ROLE => roles::number_of(lent, fields, numbers),
+        _ => of_journal(lent, get(numbers, 4), get(numbers, 5)),
     }
-    if rule == PROBE {
-        return probing::number_of(&climate[..n], &block[..m], area, numbers);
-    }
-    if rule == ROLE {
-        return roles::number_of(&climate[..n], &block[..m], area, fields, numbers);
-    }
-    of_journal(
-        &climate[..n],
-        &block[..m],
-        area,
-        get(numbers, 4),
-        get(numbers, 5),
-    )
 }
 
 // A byte of the journal, or a number of its opening or of its loss by a Ky.
-fn of_journal(climate: &[u8], block: &[u8], area: &[u8], which: u32, n: u32) -> u64 {
+fn of_journal(lent: Lent, which: u32, n: u32) -> u64 {
     if which == 0 {
-        return get_byte(area, n as usize) as u64;
+        return lent.area.get(n as usize).copied().unwrap_or(0) as u64;
     }
-    ledger::number_of(climate, block, area, which, n)
+    ledger::number_of(lent, which, n)
 }
 
 // A day's line: need, rain and irrigation for the balance; rain and irrigation for the journal.
@@ -308,15 +261,13 @@ pub fn run_day(
     balance: &mut [u32],
     area: &mut [u8],
 ) {
-    let mut climate = [0u8; 73];
-    let mut block = [0u8; 52];
-    let n = trial::count(sheets::write_climate(fields, &mut climate), &climate);
-    let m = trial::count(sheets::write_block(fields, &mut block), &block);
+    let bytes = SheetBytes::of_fields(fields);
+    let sheets = bytes.sheets();
     let a = get(numbers, 0);
     let b = get(numbers, 1);
     if rule == BALANCE {
-        ledger::close_day(&climate[..n], &block[..m], balance, a, b, get(numbers, 2));
+        ledger::close_day(sheets, balance, a, b, get(numbers, 2));
     } else {
-        ledger::record_day(&climate[..n], &block[..m], area, a, b);
+        ledger::record_day(sheets, area, a, b);
     }
 }

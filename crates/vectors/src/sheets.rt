@@ -4,11 +4,35 @@ ghost use Rattle.season.specs.Day.{AcceptedSeason};
 ghost use Rattle.season.specs.Carried.{OnDay};
 
 use crate::roles::LOOK;
-use decades::{MOST_NUMBERS, MOST_ROWS, Tabled};
-use planner::Planned;
+use crate::text;
+use decades::{MOST_NUMBERS, MOST_ROWS};
+use planner::Totals;
 use season::{LONGEST_SEASON, Season, SeasonDay};
-use trial::{get, put_behind, saturating_add};
-use verdict::Verdict;
+use trial::{count, get, put_behind};
+use verdict::{Reason, Refusal};
+
+// A pair of sheets by their bytes.
+#[derive(Clone, Copy)]
+pub struct Sheets<'a> {
+    pub climate: &'a [u8],
+    pub block: &'a [u8],
+}
+
+// Such a pair, and the area of its journal.
+#[derive(Clone, Copy)]
+pub struct Lent<'a> {
+    pub sheets: Sheets<'a>,
+    pub area: &'a [u8],
+}
+
+// The bytes of a pair of sheets, and how many each has.
+#[derive(Clone, Copy)]
+pub struct SheetBytes {
+    climate: [u8; 73],
+    climate_size: u64,
+    block: [u8; 52],
+    block_size: u64,
+}
 
 // A day's numbers: n of its season, Kc in thousandths of a hundredth, the date as month × 100 + day, C, T and R.
 #[derive(Clone, Copy)]
@@ -24,35 +48,19 @@ pub struct DayNumbers {
 // Writes a number in groups of seven bits, with zeros behind; the place after the groups.
 fn put_groups(bytes: &mut [u8], from: usize, n: u32) -> usize {
     let groups = leb128::split(n);
-    let split = groups.bytes;
-    put_behind(bytes, from, 0, split[0]);
-    put_behind(bytes, from, 1, split[1]);
-    put_behind(bytes, from, 2, split[2]);
-    put_behind(bytes, from, 3, split[3]);
-    put_behind(bytes, from, 4, split[4]);
-    saturating_add(from as u64, groups.count as u64) as usize
+    for (i, b) in groups.bytes.iter().enumerate() {
+        put_behind(bytes, from, i, *b);
+    }
+    from.saturating_add(groups.count as usize)
 }
 
 // Writes the fields from the place `first` on, up to `end`, to a place and those behind it; the place after them.
 fn put_fields(bytes: &mut [u8], from: usize, fields: &[u32], first: usize, end: usize) -> usize {
     let mut at = from;
-    let mut i = first;
-    while i < end {
+    for i in first..end {
         at = put_groups(bytes, at, get(fields, i));
-        i += 1;
     }
     at
-}
-
-// Writes the climate sheet of a line's numbers, judged by nobody: also one that reading must refuse, which the product's
-// writer does not make; how many bytes it has.
-pub fn write_climate(fields: [u32; 41], bytes: &mut [u8]) -> u64 {
-    put_fields(bytes, 0, &fields, 9, 33) as u64
-}
-
-// The same of the block sheet.
-pub fn write_block(fields: [u32; 41], bytes: &mut [u8]) -> u64 {
-    put_block(&fields, bytes, 0) as u64
 }
 
 // Writes the block sheet of the first forty-one numbers to a place and those behind it; the place after it. A February
@@ -63,33 +71,24 @@ pub fn put_block(fields: &[u32], bytes: &mut [u8], from: usize) -> usize {
     put_fields(bytes, at, fields, 33, end)
 }
 
-// Refusal number × 1000 and the number returned with it, or 0 for an accepted pair.
-pub fn refusal(climate: &[u8], block: &[u8]) -> u64 {
-    let read = sheet::read(climate, block);
-    let verdict = read.verdict;
-    verdict_code(verdict)
-}
-
-pub fn verdict_code(v: Verdict) -> u64 {
-    match v {
-        Verdict::Accepted => 0,
-        Verdict::Refused(number, value) => refusal_code(number, value),
+// Refusal number × 1000 and the number returned with it; or 0 where there is none.
+pub fn code<T: Copy>(answer: Result<T, Refusal>) -> u64 {
+    match answer {
+        Ok(_) => 0,
+        Err(refusal) => refusal_code(refusal),
     }
 }
 
-pub fn refusal_code(number: u32, value: usize) -> u64 {
-    if value < 1000 {
-        number as u64 * 1000 + value as u64
+pub fn refusal_code(refusal: Refusal) -> u64 {
+    if refusal.value < 1000 {
+        refusal.reason.number() as u64 * 1000 + refusal.value as u64
     } else {
         0
     }
 }
 
 fn thousandths(top: u32, bottom: u32) -> u64 {
-    if bottom == 0 {
-        return 0;
-    }
-    top as u64 * 1000 / bottom as u64
+    (top as u64 * 1000).checked_div(bottom as u64).unwrap_or(0)
 }
 
 // The numbers of a day, whose Kc is given.
@@ -112,10 +111,7 @@ fn season_day(s: Season, day: u32) -> DayNumbers
     requires { AcceptedSeason s }
 {
     let days = season::season_days(s);
-    if day < 1 {
-        return nothing();
-    }
-    if days < day {
+    if !(1..=days).contains(&day) {
         return nothing();
     }
     let kc = season::kc_of(s, day);
@@ -138,43 +134,8 @@ fn nothing() -> DayNumbers {
     }
 }
 
-// The same by the sheets' bytes.
-pub fn day_numbers(climate: &[u8], block: &[u8], day: u32) -> DayNumbers {
-    let read = sheet::read(climate, block);
-    let season = read.season;
-    let verdict = read.verdict;
-    match verdict {
-        Verdict::Accepted => season_day(season, day),
-        Verdict::Refused(_, _) => nothing(),
-    }
-}
-
-// How many rows the decade table has; its rows go to a lent buffer.
-pub fn row_count(climate: &[u8], block: &[u8], rows: &mut [u32]) -> usize {
-    match controller::table(LOOK, climate, block, rows) {
-        Tabled::Rows(count) => count,
-        Tabled::Refused(_, _) => 0,
-    }
-}
-
-// The number in a row and a column of the table, each from 1.
-pub fn cell(climate: &[u8], block: &[u8], row: u32, column: u32) -> u32 {
-    let mut rows = [0u32; MOST_NUMBERS];
-    row_count(climate, block, &mut rows);
-    get(&rows, place(row, column))
-}
-
 fn place(row: u32, column: u32) -> usize {
-    if row < 1 {
-        return MOST_NUMBERS;
-    }
-    if column < 1 {
-        return MOST_NUMBERS;
-    }
-    if MOST_ROWS < row {
-        return MOST_NUMBERS;
-    }
-    if 6 < column {
+    if !(1..=MOST_ROWS).contains(&row) || !(1..=6).contains(&column) {
         return MOST_NUMBERS;
     }
     ((row - 1) * 6 + (column - 1)) as usize
@@ -183,93 +144,149 @@ fn place(row: u32, column: u32) -> usize {
 // The sum of a column of rows.
 fn sum_of(rows: &[u32], column: u32) -> u64 {
     let mut sum: u64 = 0;
-    let mut row: u32 = 1;
-    while row <= MOST_ROWS {
-        sum = saturating_add(sum, get(rows, place(row, column)) as u64);
-        row += 1;
+    for row in 1..=MOST_ROWS {
+        sum = sum.saturating_add(get(rows, place(row, column)) as u64);
     }
     sum
 }
 
-// The sum of a column of the table.
-pub fn column_sum(climate: &[u8], block: &[u8], column: u32) -> u64 {
-    let mut rows = [0u32; MOST_NUMBERS];
-    row_count(climate, block, &mut rows);
-    sum_of(&rows, column)
-}
+impl SheetBytes {
+    // The sheets of a line's numbers, judged by nobody: also those that reading must refuse, which the product's writers do not make.
+    pub fn of_fields(fields: [u32; 41]) -> SheetBytes {
+        let mut climate = [0u8; 73];
+        let mut block = [0u8; 52];
+        let climate_size = put_fields(&mut climate, 0, &fields, 9, 33) as u64;
+        let block_size = put_block(&fields, &mut block, 0) as u64;
+        SheetBytes {
+            climate,
+            climate_size,
+            block,
+            block_size,
+        }
+    }
 
-// The days before the first that no choice holds, on a blank journal; 0 where there is none.
-pub fn days_held(climate: &[u8], block: &[u8]) -> u64 {
-    let mut depths = [0u32; LONGEST_SEASON];
-    match controller::plan(LOOK, climate, block, b"", &mut depths) {
-        Planned::Made(_, _, _) => 0,
-        Planned::Refused(number, day) => before(number, day),
+    // Two sheets of so many bytes each, which stand behind a line's first six numbers.
+    pub fn of_bytes(numbers: &[u32], climate_size: u32, block_size: u32) -> SheetBytes {
+        let mut climate = [0u8; 73];
+        let mut block = [0u8; 52];
+        text::lay_bytes(numbers, 6, &mut climate);
+        let from = 6usize.saturating_add(climate_size as usize);
+        text::lay_bytes(numbers, from, &mut block);
+        SheetBytes {
+            climate,
+            climate_size: climate_size as u64,
+            block,
+            block_size: block_size as u64,
+        }
+    }
+
+    pub fn sheets(&self) -> Sheets<'_> {
+        let n = count(self.climate_size, &self.climate);
+        let m = count(self.block_size, &self.block);
+        Sheets {
+            climate: &self.climate[..n],
+            block: &self.block[..m],
+        }
+    }
+
+    // The same, and an area.
+    pub fn with_area<'a>(&'a self, area: &'a [u8]) -> Lent<'a> {
+        let sheets = self.sheets();
+        Lent { sheets, area }
     }
 }
 
-fn before(number: u32, day: usize) -> u64 {
-    if number != 16 {
-        return 0;
+impl Sheets<'_> {
+    // Refusal number × 1000 and the number returned with it, or 0 for an accepted pair.
+    pub fn refusal(self) -> u64 {
+        code(sheet::read(self.climate, self.block))
     }
-    if day < 1 {
-        return 0;
+
+    // The numbers of a day of the season, or all 0 where it has no such day or the pair is refused.
+    pub fn day(self, day: u32) -> DayNumbers {
+        match sheet::read(self.climate, self.block) {
+            Ok(season) => season_day(season, day),
+            Err(_) => nothing(),
+        }
     }
-    (day - 1) as u64
-}
 
-// How many rows the decade table has.
-pub fn rows(climate: &[u8], block: &[u8]) -> usize {
-    let mut rows = [0u32; MOST_NUMBERS];
-    row_count(climate, block, &mut rows)
-}
-
-// The mean Kc of the days from one to another; 0 past day 999.
-pub fn mean_kc(climate: &[u8], block: &[u8], from: u32, to: u32) -> u64 {
-    if 1000 <= to {
-        return 0;
+    // The mean Kc of the days from one to another; 0 past day 999.
+    pub fn mean_kc(self, from: u32, to: u32) -> u64 {
+        if 1000 <= to {
+            return 0;
+        }
+        let mut sum: u64 = 0;
+        let mut count: u64 = 0;
+        for day in from..=to {
+            sum = sum.saturating_add(self.day(day).kc);
+            count = count.saturating_add(1);
+        }
+        sum.checked_div(count).unwrap_or(0)
     }
-    let mut sum: u64 = 0;
-    let mut count: u64 = 0;
-    let mut day = from;
-    while day <= to {
-        sum = saturating_add(sum, day_numbers(climate, block, day).kc);
-        count = saturating_add(count, 1);
-        day += 1;
+
+    // How many rows the decade table has; its rows go to a lent buffer.
+    fn table(self, rows: &mut [u32]) -> usize {
+        controller::table(LOOK, self.climate, self.block, rows).unwrap_or(0)
     }
-    quotient(sum, count)
-}
 
-fn quotient(n: u64, count: u64) -> u64 {
-    if count == 0 { 0 } else { n / count }
-}
+    // How many rows the decade table has.
+    pub fn row_count(self) -> usize {
+        let mut rows = [0u32; MOST_NUMBERS];
+        self.table(&mut rows)
+    }
 
-// Of the plan on a blank journal: 1 the refusal's number × 1000 and its day, 2 the waterings, 3 the net total, 4 the
-// gross total.
-pub fn plan_number(climate: &[u8], block: &[u8], which: u32) -> u64 {
-    let mut depths = [0u32; LONGEST_SEASON];
-    match controller::plan(LOOK, climate, block, b"", &mut depths) {
-        Planned::Refused(number, day) => if which == 1 {
-            refusal_code(number, day)
-        } else {
-            0
-        },
-        Planned::Made(waterings, net, gross) => match which {
-            2 => waterings as u64,
-            3 => net.0 as u64,
-            4 => gross.points() as u64,
+    // The number in a row and a column of the table, each from 1.
+    pub fn cell(self, row: u32, column: u32) -> u32 {
+        let mut rows = [0u32; MOST_NUMBERS];
+        self.table(&mut rows);
+        get(&rows, place(row, column))
+    }
+
+    // The sum of a column of the table.
+    pub fn column_sum(self, column: u32) -> u64 {
+        let mut rows = [0u32; MOST_NUMBERS];
+        self.table(&mut rows);
+        sum_of(&rows, column)
+    }
+
+    // The plan on a blank journal; its depths go to a lent buffer.
+    fn plan(self, depths: &mut [u32]) -> Result<Totals, Refusal> {
+        controller::plan(LOOK, self.climate, self.block, b"", depths)
+    }
+
+    // The days before the first that no choice holds, on a blank journal; 0 where there is none.
+    pub fn days_held(self) -> u64 {
+        let mut depths = [0u32; LONGEST_SEASON];
+        match self.plan(&mut depths) {
+            Err(
+                Refusal {
+                    reason: Reason::NoChoice,
+                    value,
+                },
+            ) => value.saturating_sub(1) as u64,
             _ => 0,
-        },
+        }
     }
-}
 
-// The plan's depth on a season day.
-pub fn depth(climate: &[u8], block: &[u8], day: u32) -> u64 {
-    let mut depths = [0u32; LONGEST_SEASON];
-    if day < 1 {
-        return 0;
+    // Of the plan on a blank journal: 1 the refusal's number × 1000 and its day, 2 the waterings, 3 the net total, 4 the
+    // gross total.
+    pub fn plan_number(self, which: u32) -> u64 {
+        let mut depths = [0u32; LONGEST_SEASON];
+        match (self.plan(&mut depths), which) {
+            (Err(refusal), 1) => refusal_code(refusal),
+            (Ok(totals), 2) => totals.waterings as u64,
+            (Ok(totals), 3) => totals.net.0 as u64,
+            (Ok(totals), 4) => totals.gross.points() as u64,
+            _ => 0,
+        }
     }
-    match controller::plan(LOOK, climate, block, b"", &mut depths) {
-        Planned::Refused(_, _) => 0,
-        Planned::Made(_, _, _) => get(&depths, (day - 1) as usize) as u64,
+
+    // The plan's depth on a season day.
+    pub fn depth(self, day: u32) -> u64 {
+        let mut depths = [0u32; LONGEST_SEASON];
+        if day < 1 || self.plan(&mut depths).is_err() {
+            return 0;
+        }
+        get(&depths, (day - 1) as usize) as u64
     }
 }

@@ -4,28 +4,12 @@ ghost use Rattle.std.specs.Prelude.{◌≤◌, length};
 
 use std::io;
 use std::io::Print;
-use trial::{get, narrow, put, put_byte, saturating_add};
-
-pub fn is_digit(b: u8) -> bool {
-    if b < 48 {
-        return false;
-    }
-    b < 58
-}
+use trial::{get, narrow, put};
 
 // A number with one digit more, or the largest number where that is more.
 fn with_digit(n: u32, b: u8) -> u32 {
-    if b < 48 {
-        return n;
-    }
-    let digit = wide(b - 48);
-    narrow(n as u64 * 10 + digit as u64)
-}
-
-fn wide(b: u8) -> u32
-    ensures { result ≤ 255 }
-{
-    b as u32
+    let digit = b.saturating_sub(b'0');
+    narrow(u64::from(n) * 10 + u64::from(digit))
 }
 
 // The place of the first such byte from a place on, or the end.
@@ -33,14 +17,12 @@ pub fn place_of(text: &[u8], from: usize, byte: u8) -> usize
     requires { from ≤ length text.now }
     ensures { (from ≤ result) × (result ≤ length text.now) }
 {
-    let mut at = from;
-    while at < text.len() {
+    for at in from..text.len() {
         if text[at] == byte {
             return at;
         }
-        at += 1;
     }
-    at
+    text.len()
 }
 
 // A line while it is read: how many numbers are behind, the number at hand, and whether a digit of it was met.
@@ -53,17 +35,17 @@ struct Reading {
 
 // Reads a byte; a number that ends here goes to its place.
 fn read_byte(numbers: &mut [u32], r: Reading, b: u8) -> Reading {
-    if is_digit(b) {
+    if b.is_ascii_digit() {
         return Reading {
-            count: r.count,
             value: with_digit(r.value, b),
             inside: true,
+            ..r
         };
     }
     if r.inside {
         put(numbers, r.count, r.value);
         return Reading {
-            count: saturating_add(r.count as u64, 1) as usize,
+            count: r.count.saturating_add(1),
             value: 0,
             inside: false,
         };
@@ -79,26 +61,21 @@ pub fn read_numbers(line: &[u8], numbers: &mut [u32]) {
         value: 0,
         inside: false,
     };
-    let mut at: usize = 0;
-    while at < end {
-        r = read_byte(numbers, r, line[at]);
-        at += 1;
+    for b in line[..end].iter() {
+        r = read_byte(numbers, r, *b);
     }
     read_byte(numbers, r, b';');
 }
 
 // A number as a byte; 255 where it is none.
 pub fn byte(n: u32) -> u8 {
-    if n < 256 { n as u8 } else { 255 }
+    u8::try_from(n).unwrap_or(255)
 }
 
 // Fills a buffer with the bytes that numbers from a place on give.
-pub fn lay_bytes(numbers: &[u32], from: u64, bytes: &mut [u8]) {
-    let mut i: usize = 0;
-    while i < bytes.len() {
-        let at = saturating_add(from, i as u64);
-        put_byte(bytes, i, byte(get(numbers, at as usize)));
-        i += 1;
+pub fn lay_bytes(numbers: &[u32], from: usize, bytes: &mut [u8]) {
+    for (i, b) in bytes.iter_mut().enumerate() {
+        *b = byte(get(numbers, from.saturating_add(i)));
     }
 }
 

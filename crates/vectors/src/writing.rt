@@ -1,17 +1,14 @@
 // What the product's writers make of a line's forty-one numbers: a climate sheet and a block sheet.
 use crate::roles::LOOK;
 use crate::sheets;
-use sheet::Written;
-use trial::{get, get_byte, put, saturating_add};
+use trial::{get, put};
+use verdict::Refusal;
 
 // Copies so many numbers from a place on to a place and those behind it.
 pub fn copy(from: &[u32], first: usize, to: &mut [u32], at: usize, count: usize) {
-    let mut i: usize = 0;
-    while i < count {
-        let source = saturating_add(first as u64, i as u64);
-        let target = saturating_add(at as u64, i as u64);
-        put(to, target as usize, get(from, source as usize));
-        i += 1;
+    for i in 0..count {
+        let n = get(from, first.saturating_add(i));
+        put(to, at.saturating_add(i), n);
     }
 }
 
@@ -31,11 +28,17 @@ fn block_of(fields: [u32; 41]) -> [u32; 17] {
 }
 
 // How many bytes a writer made, or the refusal's number × 1000 and the number returned with it.
-fn code(made: Written) -> u64 {
+fn code(made: Result<usize, Refusal>) -> u64 {
     match made {
-        Written::Made(count) => count as u64,
-        Written::Refused(number, value) => sheets::refusal_code(number, value),
+        Ok(count) => count as u64,
+        Err(refusal) => sheets::refusal_code(refusal),
     }
+}
+
+// A byte of a buffer, counted from 1; 0 past the end.
+fn byte_at(buffer: &[u8], which: u32) -> u64 {
+    let at = which.saturating_sub(1) as usize;
+    buffer.get(at).copied().unwrap_or(0) as u64
 }
 
 // The same of the climate's writer in a lent buffer; or, where `which` is not 0, that byte of the buffer, counted from 1.
@@ -44,7 +47,7 @@ fn climate_in(role: u32, fields: [u32; 41], buffer: &mut [u8], which: u32) -> u6
     if which == 0 {
         return made;
     }
-    get_byte(buffer, (which - 1) as usize) as u64
+    byte_at(buffer, which)
 }
 
 // The same of the block's.
@@ -53,7 +56,7 @@ fn block_in(role: u32, fields: [u32; 41], buffer: &mut [u8], which: u32) -> u64 
     if which == 0 {
         return made;
     }
-    get_byte(buffer, (which - 1) as usize) as u64
+    byte_at(buffer, which)
 }
 
 // The same of the climate's in a buffer of so many bytes EE, at most 73.
