@@ -52,11 +52,9 @@ pub fn long_history() -> [u32; 136]
     ensures { 136 ≡ length result }
 {
     let mut calls = [model::CLOSE; 136];
-    calls[24] = SHOWER;
-    calls[49] = SHOWER;
-    calls[74] = SHOWER;
-    calls[99] = SHOWER;
-    calls[124] = SHOWER;
+    for i in [24, 49, 74, 99, 124] {
+        calls[i] = SHOWER;
+    }
     calls
 }
 

@@ -8,6 +8,7 @@ mod histories;
 mod loose;
 mod model;
 
+use cuts::Sheets;
 use std::io;
 use std::io::Print;
 
@@ -25,7 +26,16 @@ fn cut_small(rt: &impl Print, size: u64, history: &[u32], what: &str) -> io::Res
     let climate =
         b"\xf4\x03\x00\x00\x00\x00\x00\x00\x00\x00\x00\x00\x00\x00\x00\x00\x00\x00\x00\x00\x00\x00\x00\x00\x00";
     let block = b"\x01\x09\x01\x01\x01\x01\x28\x64\x3c\x64\x14\x14\x32\x4b\x00\x7f";
-    let calls = cuts::cut_calls(rt, climate, block, histories::SMALL, size, history)?;
+    let calls = cuts::cut_calls(
+        rt,
+        Sheets {
+            climate,
+            block,
+            numbers: histories::SMALL,
+        },
+        size,
+        history,
+    )?;
     report(rt, calls, what)
 }
 
@@ -50,7 +60,16 @@ fn cut_leap(rt: &impl Print) -> io::Result<bool> {
         b"\x00\xf4\x03\xe8\x07\x00\x00\x00\x00\x00\x00\x00\x00\x00\x00\x90\x4e\x90\x4e\x00\x00\x00\x00\x00\x00\x00\x00\x00";
     let block = b"\x02\x1b\x01\x01\x01\x01\x28\x64\x3c\x64\x14\x14\x32\x4b\x00\x7f\x1d";
     let history = histories::WITHOUT_WATER;
-    let calls = cuts::cut_calls(rt, climate, block, histories::LEAP, 64, &history)?;
+    let calls = cuts::cut_calls(
+        rt,
+        Sheets {
+            climate,
+            block,
+            numbers: histories::LEAP,
+        },
+        64,
+        &history,
+    )?;
     report(rt, calls, "days without water, over the leap day")
 }
 
@@ -65,7 +84,16 @@ fn cut_long(rt: &impl Print) -> io::Result<bool> {
         b"\xac\x02\xac\x02\xac\x02\xac\x02\xac\x02\xac\x02\xac\x02\xac\x02\xac\x02\xac\x02\xac\x02\xac\x02\x00\x00\x00\x00\x00\x00\x00\x00\x00\x00\x00\x00";
     let block = b"\x01\x01\x3c\x3c\x3c\x3c\x64\x64\x64\x64\x14\x14\x32\x4b\x00\x7f";
     let history = histories::long_history();
-    let calls = cuts::cut_calls(rt, climate, block, histories::LONG, 512, &history)?;
+    let calls = cuts::cut_calls(
+        rt,
+        Sheets {
+            climate,
+            block,
+            numbers: histories::LONG,
+        },
+        512,
+        &history,
+    )?;
     report(rt, calls, "131 days, past the 127th")
 }
 
