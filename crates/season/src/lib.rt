@@ -12,6 +12,7 @@ mod numbers;
 
 ghost use Rattle.std.specs.Prelude.{◌≡◌, ◌+◌};
 ghost use Rattle.season.specs.Sheet.{Ranged, season_days};
+ghost use Rattle.season.specs.Day.{AcceptedSeason};
 
 pub use carried::{day_of, first_day, further_on, need_after, next_day};
 pub use close::close_day;
@@ -50,6 +51,13 @@ pub struct Season {
     pub opening: u32,
     pub turns: u32,
     pub february: u32,
+}
+
+// A season that refusals 4 to 7 let pass.
+#[derive(Clone, Copy, Debug, PartialEq, Eq)]
+pub struct Accepted {
+    pub season: Season,
+    pub ghost accepted: { AcceptedSeason season },
 }
 
 // A calendar day: the month and the day of the month, each from 1.
