@@ -1,6 +1,7 @@
 -- Document 02, T-08: a climate sheet and a block sheet, by document 01's refusals 1 to 7.
-use Rattle.std.specs.Prelude.{ℕ, Bool, List, ◌++◌, length, take, drop, replicate, Result, Ok, Err}
+use Rattle.std.specs.Prelude.{ℕ, Bool, List, ◌++◌, length, take, drop, replicate, Result}
 use Rattle.season.specs.declared.Season.{Season}
+use Rattle.season.specs.declared.Accepted as accepted
 use Rattle.verdict.specs.declared.Refusal.{Refusal}
 use Rattle.verdict.specs.Refusals.{by_result, Verdict, Accepted, Refused, first_of}
 use Rattle.fields.specs.Fields.{season_of, merged}
@@ -98,5 +99,8 @@ accepted_climate c = record { eto = c.eto; rain = c.rain; verdict = Accepted }
 abbrev pub climate_in : Result code.Climate Refusal → Climate
 climate_in = by_result accepted_climate no_climate
 
-abbrev pub sheet_in : Result Season Refusal → Sheet
-sheet_in = by_result (λ s. sheet_is s Accepted) refusal
+abbrev pub season_in : Result Season Refusal → Sheet
+season_in = by_result (λ s. sheet_is s Accepted) refusal
+
+abbrev pub sheet_in : Result accepted.Accepted Refusal → Sheet
+sheet_in = by_result (λ a. sheet_is a.season Accepted) refusal

@@ -9,11 +9,11 @@ ghost use Rattle.fields.specs.Fields.{season_of, merged};
 ghost use Rattle.fields.specs.Refusals.{climate_verdict, block_verdict};
 ghost use Rattle.sheet.specs.Numbers.{numbers_in, written};
 ghost use Rattle.sheet.specs.Reading.{numbers_by, count_of};
-ghost use Rattle.sheet.specs.Sheets.{only_accepted, climate_by, climate_of, block_with, sheets_of, climate_end, accepted_climate, climate_in, sheet_in};
+ghost use Rattle.sheet.specs.Sheets.{only_accepted, climate_by, climate_of, block_with, sheets_of, climate_end, accepted_climate, climate_in, season_in, sheet_in};
 ghost use Rattle.sheet.specs.Writing.{sheet_fields, bytes_written, climate_written, fields_written, block_written, written_in};
 
 use leb128::{Decoded, NoNumber};
-use season::Season;
+use season::{Accepted, Season};
 use verdict::{Reason, Refusal};
 
 // The numbers of an accepted climate sheet, ETo and dependable rain by month.
@@ -111,8 +111,7 @@ fn months(c: &[u32], at: usize) -> [u32; 12]
 }
 
 // The climate of twenty-four numbers, or refusal 4.
-fn judge_climate(c: &[u32]) -> Result<Climate, Refusal>
-    requires { length c.now ≡ 24 }
+fn judge_climate(c: &[u32; 24]) -> Result<Climate, Refusal>
     ensures { climate_in result ≡ climate_by c.now (climate_verdict c.now) }
 {
     fields::judge_climate(c)?;
@@ -136,27 +135,35 @@ pub fn read_climate(sheet: &[u8]) -> Result<Climate, Refusal>
 // The season of a climate's numbers and a block's, or the first of refusals 4 to 7 that applies to the block.
 fn judge_block(eto: [u32; 12], rain: [u32; 12], block: &[u32]) -> Result<Season, Refusal>
     requires { (16 ≤ length block.now) × (length block.now ≤ 17) }
-    ensures { sheet_in result ≡ only_accepted (season_of (merged (eto ++ rain) block.now)) (block_verdict block.now) }
+    ensures { season_in result ≡ only_accepted (season_of (merged (eto ++ rain) block.now)) (block_verdict block.now) }
 {
     fields::judge_block(block)?;
     Ok(fields::season_of(eto, rain, block))
 }
 
 // The season of a climate and a block sheet, or the first of refusals 1 to 7 that applies to the block sheet.
-pub fn read_block(climate: Climate, sheet: &[u8]) -> Result<Season, Refusal>
-    ensures { sheet_in result ≡ block_with (accepted_climate climate) sheet.now }
+pub fn read_season(climate: Climate, sheet: &[u8]) -> Result<Season, Refusal>
+    ensures { season_in result ≡ block_with (accepted_climate climate) sheet.now }
 {
     let mut block = [0u32; 17];
     let count = read_numbers(sheet, 16, &mut block)?;
     judge_block(climate.eto, climate.rain, &block[..count])
 }
 
+// The season of what reading a climate sheet answered and a block sheet; or the climate's refusal, or the first of refusals 1 to 7 that applies to the
+// block.
+pub fn read_block(climate: Result<Climate, Refusal>, sheet: &[u8]) -> Result<Season, Refusal>
+    ensures { season_in result ≡ block_with (climate_in climate) sheet.now }
+{
+    read_season(climate?, sheet)
+}
+
 // The season of a climate sheet and a block sheet, or the first of refusals 1 to 7 that applies.
-pub fn read(climate: &[u8], block: &[u8]) -> Result<Season, Refusal>
+pub fn read(climate: &[u8], block: &[u8]) -> Result<Accepted, Refusal>
     ensures { sheet_in result ≡ sheets_of climate.now block.now }
 {
-    let climate = read_climate(climate)?;
-    read_block(climate, block)
+    let season = read_block(read_climate(climate), block)?;
+    Ok(Accepted { season })
 }
 
 // Where the climate sheet ends in an input that holds a block sheet behind it: behind its twenty-fourth number, or at the input's end where those
