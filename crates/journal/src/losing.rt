@@ -1,13 +1,12 @@
 // Yield lost (request T-03).
 ghost use Rattle.std.specs.Prelude.{◌≡◌, ◌≤◌};
-ghost use Rattle.season.specs.Day.{AcceptedSeason};
 ghost use Rattle.season.specs.Loss.{ky_outside};
 ghost use Rattle.journal.specs.Sums.{UsedAtMost};
 ghost use Rattle.journal.specs.Loss.{loss_by, losses_of, lost_by, lost, lost_in};
 
 use crate::calls::find;
 use crate::{Ledger, Losses, Opening, StageSums};
-use season::Season;
+use season::Accepted;
 use verdict::{OrRefused, Reason, Refusal, refuse_if};
 
 fn loss_of(ky: u32, p: StageSums) -> u32
@@ -57,9 +56,8 @@ fn lost_by(ky: u32, l: Ledger, torn: bool, place: usize) -> Result<Losses, Refus
 }
 
 // Refusals 8, 9, 17 and 10. It answers with all days closed too.
-pub fn loss(s: Season, area: &[u8], ky: u32) -> Result<Losses, Refusal>
-    requires { AcceptedSeason s }
-    ensures { lost_in result ≡ lost s area.now ky }
+pub fn loss(s: Accepted, area: &[u8], ky: u32) -> Result<Losses, Refusal>
+    ensures { lost_in result ≡ lost s.season area.now ky }
 {
     match find(s, area) {
         Opening::Clean(l) => lost_by(ky, l, false, 0),

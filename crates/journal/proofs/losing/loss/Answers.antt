@@ -6,10 +6,10 @@ use Rattle.journal.proofs.Answers.{clean_within, torn_within}
 use Rattle.journal.proofs.losing.loss.Goals as goal
 
 pub lost_by-requires : goal.lost_by-requires
-lost_by-requires c = (clean_within c.args.s c.args.area.now c.requires _ _ c.find.ensures (ap opening_in c.in-Clean.is)).uses
+lost_by-requires c = (clean_within c.args.s.season c.args.area.now c.args.s.accepted _ _ c.find.ensures (ap opening_in c.in-Clean.is)).uses
 
 pub lost_by-requires-in-Torn : goal.lost_by-requires-in-Torn
-lost_by-requires-in-Torn c = (torn_within c.args.s c.args.area.now c.requires _ _ _ c.find.ensures (ap opening_in c.in-Torn.is)).uses
+lost_by-requires-in-Torn c = (torn_within c.args.s.season c.args.area.now c.args.s.accepted _ _ _ c.find.ensures (ap opening_in c.in-Torn.is)).uses
 
 pub returns-in-Clean : goal.returns-in-Clean
 unfolding lost lost_on
