@@ -4,14 +4,14 @@
 
 ghost use Rattle.std.specs.Prelude.{◌≡◌, ◌||◌, ◌≤◌};
 ghost use Rattle.season.specs.Sheet.{Valid, DayOf};
-ghost use Rattle.season.specs.Day.{root_on, total_on, AcceptedSeason};
+ghost use Rattle.season.specs.Day.{root_on, total_on};
 ghost use Rattle.journal.specs.Opening.{opening};
 ghost use Rattle.probes.specs.Contents.{is_wrong, is_nothing, content_in, reading_in};
 ghost use Rattle.probes.specs.Depletion.{measured};
 ghost use Rattle.measuring.specs.Probing.{capacity_outside, probed_from, probed_on, probed_in};
 
 use probes::NoContent;
-use season::Season;
+use season::{Accepted, Season};
 use verdict::{OrRefused, Reason, Refusal, refuse_if};
 
 // What probe answers: the ledger's depletion and the measured one.
@@ -89,14 +89,13 @@ fn probed_from(
 
 // What the probes say, beside the ledger of a season's journal.
 pub fn probe_season(
-    s: Season,
+    s: Accepted,
     area: &[u8],
     reading: Result<u32, NoContent>,
     capacity: u32,
 ) -> Result<Depletions, Refusal>
-    requires { AcceptedSeason s }
-    ensures { probed_in result ≡ probed_on s (reading_in reading) capacity (opening s area.now) }
+    ensures { probed_in result ≡ probed_on s.season (reading_in reading) capacity (opening s.season area.now) }
 {
     let l = journal::find(s, area).clean()?;
-    probed_from(s, reading, capacity, l.day, l.depletion)
+    probed_from(s.season, reading, capacity, l.day, l.depletion)
 }
