@@ -15,7 +15,7 @@ use Rattle.std.specs.Result.{IsOk}
 use Rattle.verdict.specs.declared.Refusal.{Refusal}
 use Rattle.season.specs.Sheet.{Valid, DayOf, longest_season}
 use Rattle.season.specs.declared.Season.{Season}
-use Rattle.sheet.specs.Sheets.{Climate, Sheet, block_with, sheet_in}
+use Rattle.sheet.specs.Sheets.{Climate, Sheet, block_with, season_in}
 use Rattle.planner.specs.Answer.{Planned, answer_to}
 use Rattle.planner.specs.Choices.{Outlook}
 use Rattle.planner.specs.Plan.{plan}
@@ -50,11 +50,11 @@ pub season_is : (climate : Climate) (lengths sheets : List ℕ) (k : ℕ) {r : S
 season_is climate lengths sheets k e i j = ap (λ (x : Sheet). x.season) e ∙ ap (λ (l : List ℕ). (block_with climate l).season) (part_is lengths 0 k sheets i j)
 
 -- The season of a refused sheet is not valid: a block that can be planned has a sheet that is read.
-read_ok : (r : Result Season Refusal) → Valid (sheet_in r).season → IsOk r
+read_ok : (r : Result Season Refusal) → Valid (season_in r).season → IsOk r
 read_ok (Ok s) v = refl
 read_ok (Err why) v = absurd (let i : 1 ≤ 0 = v.ranges.month.low≤ in omega (arith, i))
 
-pub season_read : (climate : Climate) (lengths sheets : List ℕ) (k : ℕ) (r : Result Season Refusal) {at n : ℕ} → sheet_in r ≡ block_with climate (take (at + n - at) (drop at sheets)) → at ≡ start_of lengths 0 k
+pub season_read : (climate : Climate) (lengths sheets : List ℕ) (k : ℕ) (r : Result Season Refusal) {at n : ℕ} → season_in r ≡ block_with climate (take (at + n - at) (drop at sheets)) → at ≡ start_of lengths 0 k
     → n ≡ length_of lengths 0 k → Valid (block_with climate (part_of lengths 0 sheets k)).season → IsOk r
 season_read climate lengths sheets k r e i j v = read_ok r (subst Valid (sym (season_is climate lengths sheets k e i j)) v)
 

@@ -1,7 +1,6 @@
 // What is judged of the blocks before anything is written.
 ghost use Rattle.std.specs.Prelude.{◌≡◌, ◌≤◌, IfOk, length};
 ghost use Rattle.verdict.specs.Refusals.{number_of, verdict_in};
-ghost use Rattle.season.specs.Day.{AcceptedSeason};
 ghost use Rattle.journal.specs.Opening.{opening};
 ghost use Rattle.bank.specs.Blocks.{start_of};
 ghost use Rattle.sheet.specs.Sheets.{accepted_climate};
@@ -10,7 +9,7 @@ ghost use Rattle.bank.specs.Carried.{Counted, Noted};
 
 use crate::lengths::part_length;
 use crate::{Blocks, Judged, Kept, Stand, Start};
-use season::Season;
+use season::Accepted;
 use sheet::Climate;
 use verdict::{OrRefused, Reason, Refusal, refuse_if};
 
@@ -29,13 +28,12 @@ fn no_standing(refusal: Refusal) -> Stand
 }
 
 // A block's journal, with room for so many depths: the first of refusals 8 to 11 and 15, and what its ledger has for a plan.
-pub fn standing(s: Season, area: &[u8], room: usize) -> Stand
-    requires { AcceptedSeason s }
-    ensures { stand_in result ≡ standing_on s room (opening s area.now) }
+pub fn standing(s: Accepted, area: &[u8], room: usize) -> Stand
+    ensures { stand_in result ≡ standing_on s.season room (opening s.season area.now) }
 {
     match journal::find(s, area).clean() {
         Ok(l) => {
-            let days = season::season_days(s);
+            let days = season::season_days(s.season);
             let closed = days < l.day;
             let left = (days + 1 - l.day) as usize;
             let short = room < left;
@@ -62,8 +60,8 @@ fn judge_block(climate: Climate, sheet: &[u8], area: &[u8], room: usize) -> Resu
     requires { ReadClimate (accepted_climate climate) }
     ensures { judging_in result ≡ only_judged (judged (accepted_climate climate) sheet.now area.now room) }
 {
-    let season = sheet::read_block(climate, sheet)?;
-    let stand = standing(season, area, room);
+    let season = sheet::read_season(climate, sheet)?;
+    let stand = standing(Accepted { season }, area, room);
     stand.verdict?;
     Ok(Judged {
         start: Start {

@@ -150,7 +150,7 @@ pub fn plan_blocks(
         let sheet_end = sheet_at + part_length(b.lengths, 0, k);
         let end = at + part_length(b.lengths, 2, k);
         // Judging has read it: only an accepted sheet comes here.
-        let season = sheet::read_block(b.climate, &b.sheets[sheet_at..sheet_end]).unwrap();
+        let season = sheet::read_season(b.climate, &b.sheets[sheet_at..sheet_end]).unwrap();
         let seen = counts_seen(k, limit, used.len());
         let planned = plan_block(
             season,
