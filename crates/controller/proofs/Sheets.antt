@@ -1,8 +1,9 @@
 -- A call on two sheets, by what reading them answered.
-use mathlib.Core.Path.{◌≡◌, refl, sym, ap, ◌∙◌}
+use mathlib.Core.Path.{◌≡◌, refl, sym, ap}
 use mathlib.Core.List.{List}
 use Prim.Native.Nat.{ℕ}
 use Rattle.season.specs.declared.Season.{Season}
+use Rattle.season.specs.declared.Accepted as accepted
 use Rattle.season.specs.Day.{AcceptedSeason}
 use Rattle.std.specs.Prelude.{Result, Ok, Err}
 use Rattle.verdict.specs.declared.Refusal.{Refusal}
@@ -36,22 +37,16 @@ module _ {A : Type 0} (refuse : ℕ → ℕ → A) (reply : Season → A) (clima
     sheets_accepted v = rw (← e, v)
 
   -- By what reading answered.
-  module _ (r : Result Season Refusal) (e : sheet_in r ≡ sheets_of climate block) where
+  module _ (r : Result accepted.Accepted Refusal) (e : sheet_in r ≡ sheets_of climate block) where
     pub reading_refused : (why : Refusal) → r ≡ Err why → on_sheets refuse reply climate block ≡ refuse (number_of why.reason) why.value
     unfolding on_sheets
     reading_refused why is = rw (← e, is)
 
-    pub reading_accepted : (s : Season) → r ≡ Ok s → on_sheets refuse reply climate block ≡ reply s
+    pub reading_accepted : (a : accepted.Accepted) → r ≡ Ok a → on_sheets refuse reply climate block ≡ reply a.season
     unfolding on_sheets
-    reading_accepted s is = rw (← e, is)
+    reading_accepted a is = rw (← e, is)
 
   -- An accepted pair is answered as the one sheet of its numbers was.
   pub as_on_sheet : (sheets_of climate block).verdict ≡ Accepted → on_sheets refuse reply climate block ≡ on_sheet refuse reply (one_sheet climate block)
   unfolding on_sheets
   as_on_sheet v = ap (λ (r : Sheet). by_verdict refuse reply r.season r.verdict) (sym ((sheets.claims).as_one_sheet climate block v))
-
--- The season that was read is that of an accepted pair.
-pub read_accepted_season : (climate block : List ℕ) (r : Result Season Refusal) → sheet_in r ≡ sheets_of climate block → (s : Season) → r ≡ Ok s → AcceptedSeason s
-read_accepted_season climate block r e s is =
-    let same : sheets_of climate block ≡ sheet_in (Ok s) = sym e ∙ ap sheet_in is in
-    rw (ap (λ (x : Sheet). x.season) same) at (accepted_season climate block (ap (λ (x : Sheet). x.verdict) same))

@@ -5,7 +5,6 @@
 
 ghost use Rattle.std.specs.Prelude.{◌≡◌};
 ghost use Rattle.verdict.specs.Refusals.{verdict_in};
-ghost use Rattle.season.specs.Day.{AcceptedSeason};
 ghost use Rattle.sheet.specs.Writing.{written_in};
 ghost use Rattle.journal.specs.declared.Entry.TheVariants.{Water, Close};
 ghost use Rattle.journal.specs.declared.Source.TheVariants.{Rain, Irrigation};
@@ -23,7 +22,7 @@ use journal::{Entry, Losses, Opened, Opening, Source, Stores};
 use measuring::Depletions;
 use planner::Totals;
 use probes::Probe;
-use season::Season;
+use season::Accepted;
 use verdict::{Reason, Refusal, refuse_if};
 
 // What the journal holds: clean or torn with its ledger, or a refusal; and the places of a torn part to set to FF, in this order.
@@ -63,19 +62,18 @@ fn sheet_lost(climate: &[u8], block: &[u8], area: &[u8], ky: u32) -> Result<Loss
 }
 
 // The plan of a season on its journal, from the open day on.
-fn plan_season(s: Season, area: &[u8], depths: &mut [u32]) -> Result<Totals, Refusal>
-    requires { AcceptedSeason s }
-    ensures { (planned_in result, depths.new) ≡ planned_on s depths.old (opening s area.now) }
+fn plan_season(s: Accepted, area: &[u8], depths: &mut [u32]) -> Result<Totals, Refusal>
+    ensures { (planned_in result, depths.new) ≡ planned_on s.season depths.old (opening s.season area.now) }
 {
     let l = journal::find(s, area).clean()?;
-    if season::season_days(s) < l.day {
+    if season::season_days(s.season) < l.day {
         return Err(Refusal {
             reason: Reason::AllDaysClosed,
             value: 0,
         });
     }
     planner::make_plan(
-        s,
+        s.season,
         l.day,
         l.depletion,
         l.waiting_rain + l.waiting_irrigation,
@@ -115,8 +113,8 @@ fn sheet_probed(
 fn sheet_tabled(climate: &[u8], block: &[u8], rows: &mut [u32]) -> Result<usize, Refusal>
     ensures { (tabled_in result, rows.new) ≡ sheet_tabled climate.now block.now rows.old }
 {
-    let season = sheet::read(climate, block)?;
-    decades::table(season, rows)
+    let accepted = sheet::read(climate, block)?;
+    decades::table(accepted.season, rows)
 }
 
 // ---- roles

@@ -2,11 +2,8 @@
 use mathlib.Core.Path.{sym, ◌∙◌}
 use Rattle.verdict.proofs.First.{handed_on}
 use Rattle.journal.specs.Loss.{Refused, lost}
-use Rattle.controller.proofs.Sheets.{reading_refused, reading_accepted, read_accepted_season}
+use Rattle.controller.proofs.Sheets.{reading_refused, reading_accepted}
 use Rattle.controller.proofs.sheet_lost.Goals as goal
-
-pub loss-requires : goal.loss-requires
-loss-requires c = (read_accepted_season _ _ _ c.read.ensures _ c.in_ok-season.was)
 
 pub returns-in_err-season : goal.returns-in_err-season
 returns-in_err-season c =

@@ -4,15 +4,12 @@ use mathlib.Core.Path.{sym, ◌∙◌}
 use mathlib.Core.List.{[]}
 use Rattle.journal.specs.Opening.{Refused}
 use Rattle.journal.specs.Calls.{Opened, opened_with, opened}
-use Rattle.controller.proofs.Sheets.{reading_refused, reading_accepted, read_accepted_season}
+use Rattle.controller.proofs.Sheets.{reading_refused, reading_accepted}
 use Rattle.controller.proofs.sheet_opened.Goals as goal
 
 -- A refused pair.
 abbrev unopened : ℕ → ℕ → Opened
 unopened number value = opened_with (Refused number value) []
-
-pub open-requires : goal.open-requires
-open-requires c = read_accepted_season _ _ _ c.read.ensures _ c.in-Ok.is
 
 pub returns-in-Ok : goal.returns-in-Ok
 returns-in-Ok c = c.«open».ensures ∙ sym (reading_accepted unopened (λ s. opened s c.args.area.now) c.args.climate.now c.args.block.now _ c.read.ensures _ c.in-Ok.is)

@@ -4,11 +4,8 @@ use Rattle.verdict.proofs.First.{handed_on}
 use Rattle.planner.specs.Answer.{Refused}
 use Rattle.journal.specs.Opening.{opening}
 use Rattle.controller.specs.Calls.{planned_on}
-use Rattle.controller.proofs.Sheets.{reading_refused, reading_accepted, read_accepted_season}
+use Rattle.controller.proofs.Sheets.{reading_refused, reading_accepted}
 use Rattle.controller.proofs.sheet_planned.Goals as goal
-
-pub plan_season-requires : goal.plan_season-requires
-plan_season-requires c = (read_accepted_season _ _ _ c.read.ensures _ c.in_ok-season.was)
 
 pub returns-in_err-season : goal.returns-in_err-season
 returns-in_err-season c =

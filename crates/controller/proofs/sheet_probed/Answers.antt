@@ -4,11 +4,8 @@ use Rattle.verdict.proofs.First.{handed_on}
 use Rattle.journal.specs.Opening.{opening}
 use Rattle.probes.specs.Contents.{Reading, reading_of}
 use Rattle.measuring.specs.Probing.{Refused, probed_on}
-use Rattle.controller.proofs.Sheets.{reading_refused, reading_accepted, read_accepted_season}
+use Rattle.controller.proofs.Sheets.{reading_refused, reading_accepted}
 use Rattle.controller.proofs.sheet_probed.Goals as goal
-
-pub probe_season-requires : goal.probe_season-requires
-probe_season-requires c = (read_accepted_season _ _ _ c.read.ensures _ c.in_ok-season.was)
 
 pub returns-in_err-season : goal.returns-in_err-season
 returns-in_err-season c =
@@ -17,5 +14,5 @@ returns-in_err-season c =
 
 pub returns : goal.returns
 returns c = c.probe_season.ensures
-    ∙ ap (λ (r : Reading). probed_on c.in_ok-season.season r c.args.capacity (opening c.in_ok-season.season c.args.area.now)) c.reading_of.ensures
+    ∙ ap (λ (r : Reading). probed_on c.in_ok-season.season.season r c.args.capacity (opening c.in_ok-season.season.season c.args.area.now)) c.reading_of.ensures
     ∙ sym (reading_accepted Refused (λ s. probed_on s (reading_of c.args.shallow c.args.deep) c.args.capacity (opening s c.args.area.now)) c.args.climate.now c.args.block.now _ c.read.ensures _ c.in_ok-season.was)

@@ -3,11 +3,8 @@ use mathlib.Core.Path.{sym, ◌∙◌}
 use Rattle.verdict.proofs.First.{handed_on}
 use Rattle.verdict.specs.Refusals.{Refused}
 use Rattle.journal.specs.Calls.{no_stores, recorded_with, recorded}
-use Rattle.controller.proofs.Sheets.{reading_refused, reading_accepted, read_accepted_season}
+use Rattle.controller.proofs.Sheets.{reading_refused, reading_accepted}
 use Rattle.controller.proofs.sheet_recorded.Goals as goal
-
-pub record-requires : goal.record-requires
-record-requires c = (read_accepted_season _ _ _ c.read.ensures _ c.in_ok-season.was)
 
 pub returns-in_err-season : goal.returns-in_err-season
 unfolding recorded_with
