@@ -80,19 +80,6 @@ fn put_written(out: &mut [u32; OUT], w: Result<usize, Refusal>)
     }
 }
 
-// A writer's answer, with the sheet in the lent buffer. (The numbers by value: an array tells its length, a reference to one does not.)
-fn put_climate(role: u32, fields: [u32; 24], climate: &mut [u8], out: &mut [u32; OUT])
-    ensures { (out.new, climate.new) ≡ sheet_over out.old (climate_written_by role fields climate.old) }
-{
-    put_written(out, controller::write_climate(role, fields, climate));
-}
-
-fn put_block(role: u32, fields: [u32; 17], block: &mut [u8], out: &mut [u32; OUT])
-    ensures { (out.new, block.new) ≡ sheet_over out.old (block_written_by role fields block.old) }
-{
-    put_written(out, controller::write_block(role, fields, block));
-}
-
 // A probe by its kind: 1 water content, 2 low supply voltage, any other number silent.
 fn probe_of(kind: u32, x: f32) -> Probe
     ensures { result ≡ probe_of kind x }
@@ -295,8 +282,7 @@ pub extern "C" fn balladsky_write_climate(
 )
     ensures { (out.new, climate.new) ≡ sheet_over out.old (climate_written_by role fields.now climate.old) }
 {
-    let own = *fields;
-    put_climate(role, own, climate, out);
+    put_written(out, controller::write_climate(role, *fields, climate));
 }
 
 // Bytes; the block sheet in the lent buffer. Refusals 20, 4 to 7, and 15.
@@ -309,6 +295,5 @@ pub extern "C" fn balladsky_write_block(
 )
     ensures { (out.new, block.new) ≡ sheet_over out.old (block_written_by role fields.now block.old) }
 {
-    let own = *fields;
-    put_block(role, own, block, out);
+    put_written(out, controller::write_block(role, *fields, block));
 }

@@ -6,10 +6,10 @@ use Rattle.sheet.specs.Writing.{Written, numbers_of}
 use Rattle.exports.proofs.Over.{both_by}
 use Rattle.exports.proofs.Bounds.{block_small}
 use borrow.Author.Rules.{rules}
-use Rattle.exports.proofs.put_block.Goals as goal
+use Rattle.exports.proofs.balladsky_write_block.Goals as goal
 
 pub put_written-requires : goal.put_written-requires
-put_written-requires c = rw (ap (λ (a : Written × List ℕ). a.0) c.write_block.ensures) (block_small c.args.role c.args.fields c.args.block.now (search rules))
+put_written-requires c = rw (ap (λ (a : Written × List ℕ). a.0) c.write_block.ensures) (block_small c.args.role c.args.fields.now c.args.block.now (search rules))
 
 pub returns : goal.returns
 returns c = both_by numbers_of _ refl c.write_block.ensures c.put_written.ensures
