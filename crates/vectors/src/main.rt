@@ -197,22 +197,9 @@ fn run_text(rt: &impl Print, data: &[u8], rule: u32) -> io::Result<Tally> {
     let mut balance = [0u32; 6];
     let mut area = [255u8; 1024];
     let mut all = tally_of(0, 0, 0);
-    let mut at: usize = 0;
-    while at < data.len() {
-        let end = text::place_of(data, at, b'\n');
-        let line = run_line(
-            rt,
-            &data[at..end],
-            rule,
-            &mut fields,
-            &mut balance,
-            &mut area,
-        )?;
-        all = all.and(counted(line));
-        if data.len() <= end {
-            return Ok(all);
-        }
-        at = end + 1;
+    for line in data.split(|&b| b == b'\n') {
+        let outcome = run_line(rt, line, rule, &mut fields, &mut balance, &mut area)?;
+        all = all.and(counted(outcome));
     }
     Ok(all)
 }

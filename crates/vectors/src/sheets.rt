@@ -1,13 +1,12 @@
 // A climate sheet and a block sheet from a line's numbers, and what the product says of a day of their season.
 ghost use Rattle.season.specs.Sheet.{Valid};
-ghost use Rattle.season.specs.Day.{AcceptedSeason};
 ghost use Rattle.season.specs.Carried.{OnDay};
 
 use crate::roles::LOOK;
 use crate::text;
 use decades::{MOST_NUMBERS, MOST_ROWS};
 use planner::Totals;
-use season::{LONGEST_SEASON, Season, SeasonDay};
+use season::{Accepted, LONGEST_SEASON, Season, SeasonDay};
 use trial::{count, get, put_behind};
 use verdict::{Reason, Refusal};
 
@@ -107,9 +106,8 @@ fn numbers_on(s: Season, t: SeasonDay, days: u32, kc: u64) -> DayNumbers
 }
 
 // The numbers of a day of the season, or all 0 where it has no such day.
-fn season_day(s: Season, day: u32) -> DayNumbers
-    requires { AcceptedSeason s }
-{
+fn season_day(a: Accepted, day: u32) -> DayNumbers {
+    let s = a.season;
     let days = season::season_days(s);
     if !(1..=days).contains(&day) {
         return nothing();
