@@ -105,7 +105,8 @@ fn is_outside(limit: Limit, x: u32) -> bool
 }
 
 // A climate's lowest field outside its limits, by its number. (Of a known count, in both loops: the limits are then no table in memory.)
-fn climate_fault(c: &[u32; 24]) -> Option<usize>
+fn climate_fault(c: &[u32]) -> Option<usize>
+    requires { length c.now ≡ 24 }
     ensures { MatchOption result (climate_at_fault c.now ≡ 0) (λ field. (0 < field) × (field ≡ climate_at_fault c.now)) }
 {
     let by_place = CLIMATE;
@@ -175,7 +176,8 @@ pub fn season_of(eto: [u32; 12], rain: [u32; 12], block: &[u32]) -> Season
 // ---- refusals 4 to 7
 
 // A climate's twenty-four numbers: refusal 4.
-pub fn judge_climate(c: &[u32; 24]) -> Result<(), Refusal>
+pub fn judge_climate(c: &[u32]) -> Result<(), Refusal>
+    requires { length c.now ≡ 24 }
     ensures { verdict_in result ≡ climate_verdict c.now }
 {
     match climate_fault(c) {
