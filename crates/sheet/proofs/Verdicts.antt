@@ -1,6 +1,6 @@
 -- The sheets' verdicts, by what their numbers and their judgement are.
 use Prim.Native.Nat.{ℕ, ◌≤◌}
-use mathlib.Core.Path.{◌≡◌, refl, sym, ap, ◌∙◌}
+use mathlib.Core.Path.{◌≡◌, refl, sym, ap, ap₂, ◌∙◌}
 use mathlib.Core.Bool.{Bool}
 use mathlib.Core.List.{List, ◌++◌}
 use native.Mathlib.Omega.{arith}
@@ -11,7 +11,7 @@ use Rattle.season.specs.declared.Season.{Season}
 use Rattle.verdict.proofs.First.{first_refused_lem, refused_accepted}
 use Rattle.fields.specs.Fields.{season_of, merged}
 use Rattle.fields.specs.Refusals.{climate_lines, block_lines, climate_verdict, block_verdict}
-use Rattle.sheet.specs.Sheets.{Climate, climate_numbers, block_numbers, then_refused, no_climate, climate_by, climate_of, block_of, refusal, only_accepted, unless_refused, block_with, sheets_of}
+use Rattle.sheet.specs.Sheets.{Climate, climate_numbers, block_numbers, then_refused, no_climate, climate_by, climate_of, block_of, sheet_is, refusal, only_accepted, unless_refused, block_with, sheets_of}
 use Rattle.sheet.specs.Numbers.{Numbers, numbers_are, numbers_in}
 use Rattle.std.specs.Prelude.{Result, Ok, Err}
 use Rattle.verdict.specs.declared.Refusal as code
@@ -56,6 +56,10 @@ whole_buffer least count s fields n e =
     let all : take count fields ≡ fields = take_all count fields (omega (arith, (read_counts least 0 s (take count fields) e).0, length-take count fields)) in
     rw all at e
 
+-- A lent array of twenty-four.
+pub climate_by_numbers : (n : ℕ) (s fields : List ℕ) (r : Result ℕ code.Refusal) → n ≡ 24 → numbers_by n fields r ≡ numbers_in n 0 s → numbers_by 24 fields r ≡ climate_numbers s
+climate_by_numbers n s fields r e h = rw e at h
+
 -- ---- a climate sheet
 
 pub climate_verdict_lem : (c : List ℕ) (v : Verdict) → (climate_by c v).verdict ≡ v
@@ -82,6 +86,11 @@ pub block_read : (c s b : List ℕ) → numbers_are b Accepted ≡ block_numbers
     → only_accepted (season_of (merged c b)) (block_verdict b) ≡ only_accepted (season_of (merged c (block_of s).fields)) (block_of s).verdict
 unfolding block_of block_verdict
 block_read c s b e = ap (λ (n : Numbers). only_accepted (season_of (merged c n.fields)) (then_refused block_lines n)) e
+
+pub block_filled : (c s b : List ℕ) → b ≡ (block_numbers s).fields → Accepted ≡ then_refused block_lines (block_numbers s)
+    → sheet_is (season_of (merged c b)) Accepted ≡ only_accepted (season_of (merged c (block_of s).fields)) (block_of s).verdict
+unfolding block_of
+block_filled c s b e v = ap₂ (λ (x : List ℕ) (w : Verdict). only_accepted (season_of (merged c x)) w) e v
 
 -- ---- both
 

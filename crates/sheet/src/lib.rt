@@ -2,14 +2,15 @@
 // sheet sixteen, or seventeen with the days of February (T-06); refusals 1 to 7. And both writers (T-02).
 #![tactic(auto)]
 
-ghost use Rattle.std.specs.Prelude.{◌+◌, ◌-◌, ◌≤◌, ◌≡◌, [], ◌++◌, length, take, drop};
+ghost use Rattle.std.specs.Prelude.{◌+◌, ◌-◌, ◌≤◌, ◌≡◌, [], ◌++◌, length, take, drop, IfOk};
 ghost use Rattle.std.proofs.lemmas.List.Edits.{sets};
 ghost use Rattle.leb128.specs.Groups.{encode};
-ghost use Rattle.fields.specs.Fields.{season_of, merged};
-ghost use Rattle.fields.specs.Refusals.{climate_verdict, block_verdict};
+ghost use Rattle.verdict.specs.Refusals.{verdict_in};
+ghost use Rattle.verdict.specs.Refusals as verdicts;
+ghost use Rattle.fields.specs.Refusals.{block_lines};
 ghost use Rattle.sheet.specs.Numbers.{numbers_in, written};
 ghost use Rattle.sheet.specs.Reading.{numbers_by, count_of};
-ghost use Rattle.sheet.specs.Sheets.{only_accepted, climate_by, climate_of, block_with, sheets_of, climate_end, accepted_climate, climate_in, season_in, sheet_in};
+ghost use Rattle.sheet.specs.Sheets.{then_refused, climate_by, climate_of, block_with, sheets_of, climate_end, accepted_climate, climate_in, season_in, sheet_in};
 ghost use Rattle.sheet.specs.Writing.{sheet_fields, bytes_written, climate_written, fields_written, block_written, written_in};
 
 use leb128::{Decoded, NoNumber};
@@ -110,15 +111,22 @@ fn months(c: &[u32], at: usize) -> [u32; 12]
     dozen
 }
 
-// The climate of twenty-four numbers, or refusal 4.
-fn judge_climate(c: &[u32; 24]) -> Result<Climate, Refusal>
-    ensures { climate_in result ≡ climate_by c.now (climate_verdict c.now) }
+// The climate of twenty-four numbers.
+fn climate_from(c: &[u32; 24]) -> Climate
+    ensures { accepted_climate result ≡ climate_by c.now verdicts.Accepted }
 {
-    fields::judge_climate(c)?;
-    Ok(Climate {
+    Climate {
         eto: months(c, 0),
         rain: months(c, 12),
-    })
+    }
+}
+
+// A climate sheet's numbers into a lent array; or the first of refusals 1 to 4 that applies.
+fn fill_climate(sheet: &[u8], c: &mut [u32; 24]) -> Result<(), Refusal>
+    ensures { climate_by c.new (verdict_in result) ≡ climate_of sheet.now }
+{
+    read_all(sheet, c)?;
+    fields::judge_climate(c)
 }
 
 // A climate sheet: its numbers, or the first of refusals 1 to 4 that applies.
@@ -126,19 +134,21 @@ pub fn read_climate(sheet: &[u8]) -> Result<Climate, Refusal>
     ensures { climate_in result ≡ climate_of sheet.now }
 {
     let mut c = [0u32; 24];
-    read_all(sheet, &mut c)?;
-    judge_climate(&c)
+    fill_climate(sheet, &mut c)?;
+    Ok(climate_from(&c))
 }
 
 // ---- the block sheet
 
-// The season of a climate's numbers and a block's, or the first of refusals 4 to 7 that applies to the block.
-fn judge_block(eto: [u32; 12], rain: [u32; 12], block: &[u32]) -> Result<Season, Refusal>
-    requires { (16 ≤ length block.now) × (length block.now ≤ 17) }
-    ensures { season_in result ≡ only_accepted (season_of (merged (eto ++ rain) block.now)) (block_verdict block.now) }
+// A block sheet's numbers into a lent buffer, and how many it has; or the first of refusals 1 to 7 that applies to the block sheet.
+fn fill_block(sheet: &[u8], block: &mut [u32]) -> Result<usize, Refusal>
+    requires { (16 ≤ length block.old) × (length block.old ≤ 17) }
+    ensures verdict { verdict_in result ≡ then_refused block_lines (numbers_in 16 (length block.old - 16) sheet.now) }
+    ensures numbers { IfOk result (λ count. (16 ≤ count) × (count ≤ length block.old) × (take count block.new ≡ (numbers_in 16 (length block.old - 16) sheet.now).fields)) }
 {
-    fields::judge_block(block)?;
-    Ok(fields::season_of(eto, rain, block))
+    let numbers = read_numbers(sheet, 16, block)?;
+    fields::judge_block(&block[..numbers])?;
+    Ok(numbers)
 }
 
 // The season of a climate and a block sheet, or the first of refusals 1 to 7 that applies to the block sheet.
@@ -146,8 +156,8 @@ pub fn read_season(climate: Climate, sheet: &[u8]) -> Result<Season, Refusal>
     ensures { season_in result ≡ block_with (accepted_climate climate) sheet.now }
 {
     let mut block = [0u32; 17];
-    let count = read_numbers(sheet, 16, &mut block)?;
-    judge_block(climate.eto, climate.rain, &block[..count])
+    let count = fill_block(sheet, &mut block)?;
+    Ok(fields::season_of(climate.eto, climate.rain, &block[..count]))
 }
 
 // The season of what reading a climate sheet answered and a block sheet; or the climate's refusal, or the first of refusals 1 to 7 that applies to the
@@ -158,11 +168,17 @@ pub fn read_block(climate: Result<Climate, Refusal>, sheet: &[u8]) -> Result<Sea
     read_season(climate?, sheet)
 }
 
-// The season of a climate sheet and a block sheet, or the first of refusals 1 to 7 that applies.
+// The season of a climate sheet and a block sheet, or the first of refusals 1 to 7 that applies. (It goes by the sheets' numbers: a `Result` of a climate
+// or of a season is copied at each `?`.)
 pub fn read(climate: &[u8], block: &[u8]) -> Result<Accepted, Refusal>
     ensures { sheet_in result ≡ sheets_of climate.now block.now }
 {
-    let season = read_block(read_climate(climate), block)?;
+    let mut c = [0u32; 24];
+    fill_climate(climate, &mut c)?;
+    let mut b = [0u32; 17];
+    let count = fill_block(block, &mut b)?;
+    let Climate { eto, rain } = climate_from(&c);
+    let season = fields::season_of(eto, rain, &b[..count]);
     Ok(Accepted { season })
 }
 

@@ -1,14 +1,18 @@
--- It goes by what reading the numbers answers (proofs/Verdicts.antt).
-use mathlib.Core.Path.{◌∙◌}
+-- By what its numbers say.
+use mathlib.Core.Path.{sym, ap, ◌∙◌}
+use Rattle.std.specs.Prelude.{Result}
+use Rattle.verdict.specs.declared.Refusal.{Refusal}
+use Rattle.verdict.specs.Refusals.{verdict_in}
 use Rattle.verdict.proofs.First.{handed_on}
-use Rattle.fields.specs.Refusals.{climate_lines}
-use Rattle.sheet.proofs.Verdicts.{stopped, whole, whole_buffer, climate_stopped, climate_read}
+use Rattle.sheet.specs.Sheets.{climate_by}
 use Rattle.sheet.proofs.read_climate.Goals as goal
 
 pub returns : goal.returns
-returns c = c.judge_climate.ensures ∙ climate_read c.args.sheet.now _ (whole_buffer _ c.in_ok-read_all.field-0 c.args.sheet.now _ c.read_all.auto.fields (whole _ _ c.args.sheet.now _ _ c.read_all.ensures _ c.in_ok-read_all.was))
+returns c =
+    rw c.climate_from.ensures
+    (sym (ap (λ (r : Result (Unit {0}) Refusal). climate_by c.fill_climate.new.c (verdict_in r)) c.in_ok-fill_climate.was) ∙ c.fill_climate.ensures)
 
-pub returns-in_err-read_all : goal.returns-in_err-read_all
-returns-in_err-read_all c =
+pub returns-in_err-fill_climate : goal.returns-in_err-fill_climate
+returns-in_err-fill_climate c =
     rw (handed_on _ _ c.from_residual.ensures.1)
-    (climate_stopped c.args.sheet.now _ _ (stopped _ _ c.args.sheet.now _ _ c.read_all.ensures climate_lines _ c.in_err-read_all.was))
+    (sym (ap (λ (r : Result (Unit {0}) Refusal). climate_by c.fill_climate.new.c (verdict_in r)) c.in_err-fill_climate.was) ∙ c.fill_climate.ensures)
