@@ -1,7 +1,7 @@
 -- What the calls answer, by what the opening found.
 use Rattle.season.specs.Day.{AcceptedSeason}
 use Prim.Native.Nat.{◌+◌, ◌-◌, ◌<◌, ◌≤◌, min, suc, ℕ}
-use mathlib.Core.Path.{◌∙◌, ◌≡◌, ap, refl, sym}
+use mathlib.Core.Path.{◌∙◌, ◌≡◌, ap, ap₂, refl, sym}
 use mathlib.Core.List.{List, [], ◌++◌, ◌∷◌, map}
 use mathlib.Core.Bool.{Bool, ◌||◌, false, true, true≢false}
 use native.Mathlib.Omega.{arith}
@@ -220,6 +220,14 @@ module _ {tail : List ℕ} {place n : ℕ} {places : List ℕ} {count i : ℕ} (
         counted = rw (q, length-append) (omega (arith, w.counted));
         stored = rw q (ap (λ (x : List ℕ). set x count p) w.stored ∙ stored_next seen count p w.counted (omega (arith, w.fewer, w.few)));
       }
+
+pub wiped_all_done : {tail : List ℕ} {place n : ℕ} {places : List ℕ} {count i : ℕ} (o : Opening) → Wiped tail place n places count i → n ≤ i
+    → record { opening = o; places = places; count = count } ≡ opened_with o (wipe_places place tail)
+wiped_all_done {tail} {place} {n} {places} {count} {i} o w h =
+    let z : n - i ≡ 0 = omega (arith, w.within) in
+    let y : place + (n - i) ≡ place = omega arith in
+    let q : wipe_places (place + (n - i)) (drop (n - i) tail) ≡ wipe_places place tail = ap₂ (λ (p k : ℕ). wipe_places p (drop k tail)) y z in
+    rw (w.counted, w.stored, q)
 
 -- what a torn journal's tail has
 pub torn_tail : (s : Season) (area : List ℕ) (v : AcceptedSeason s) (p : ℕ) → TornHere s area v p
