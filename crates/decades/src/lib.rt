@@ -6,6 +6,7 @@ ghost use Rattle.std.proofs.lemmas.List.Edits.{sets};
 ghost use Rattle.season.specs.Sheet.{Valid};
 ghost use Rattle.season.specs.Rules.{rain_to};
 ghost use Rattle.season.specs.Carried.{OnDay};
+ghost use Rattle.season.specs.Depths.{net_is};
 ghost use Rattle.decades.specs.Table.{decade_of, same_decade, six, row_count, table, tabled, tabled_in};
 ghost use Rattle.decades.specs.OpenRow.{row_of, decade_end, days_alike};
 
@@ -121,13 +122,20 @@ fn row_of(s: Season, t: SeasonDay, need: u32, before: u32) -> Row
     }
 }
 
+// The net depth of a row: its need less its planned rain, 0 where rain is more.
+pub fn net_of(need: u32, rain: u32) -> Net
+    ensures { result ≡ net_is (need - rain) }
+{
+    Net(need.saturating_sub(rain))
+}
+
 // Writes a row's six numbers from a place on.
 fn put_row(out: &mut [u32], at: usize, efficiency: u32, row: Row)
     requires at_in_bounds { at + 6 ≤ length out.old }
     requires le_efficiency { (1 ≤ efficiency) × (efficiency ≤ 100) × (row.need ≤ 40000000) }
     ensures { out.new ≡ sets out.old at (six efficiency row) }
 {
-    let net = Net(row.need.saturating_sub(row.rain));
+    let net = net_of(row.need, row.rain);
     let gross = season::gross_of(efficiency, net).points();
     let numbers = [row.month, row.decade, row.need, row.rain, net.0, gross];
     out[at..at + 6].copy_from_slice(&numbers);

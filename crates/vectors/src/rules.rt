@@ -214,7 +214,7 @@ pub fn answer(rule: u32, numbers: &[u32], fields: [u32; 41]) -> u64 {
     match rule {
         RAIN => rain(a),
         GROSS => gross(a, b),
-        NET => a.saturating_sub(b) as u64,
+        NET => decades::net_of(a, b).0 as u64,
         USE => close(a, 0, b, get(numbers, 6), get(numbers, 7)).used as u64,
         LOSS => loss(a, b, get(numbers, 6)),
         CONTENT => probing::reading(numbers),

@@ -19,4 +19,4 @@ unfolding six
 returns c =
     let a = c.args in
     stored (six a.efficiency a.row) _ a.out.now a.at c.requires.at_in_bounds
-    (c.copy_from_slice.ensures.after ∙ rw (c.points-gross.ensures, c.gross_of.ensures, c.saturating_sub.ensures))
+    (c.copy_from_slice.ensures.after ∙ rw (c.points-gross.ensures, c.gross_of.ensures, c.net_of-net.ensures))
