@@ -248,7 +248,10 @@ module _ {s : Season} {n at need before : ℕ} {t : SeasonDay} {l₀ l : List �
   pub filling_length : length l ≡ length l₀
   filling_length = rw f.buffer (simp (length-append, length-drop, length_flat) (omega (arith, fits₀, f.rows.count)))
 
-  -- What put_row requires.
+  -- What row_of and put_row require.
+  pub filling_rain : Valid s × (OnDay s t × (before ≤ rain_to t.effective t.day t.length))
+  filling_rain = (f.rows.valid, (f.rows.on, f.rows.least))
+
   pub filling_room : {r : Row} → r ≡ row_of t need before
       → (at + 6 ≤ length l) × ((1 ≤ s.efficiency) × (s.efficiency ≤ 100) × (r.need ≤ 40000000))
   filling_room e =
