@@ -4,7 +4,7 @@ use mathlib.Core.List.{List, [], ◌∷◌, ◌++◌}
 use Prim.Native.Nat.{ℕ, zero, suc, ◌+◌, ◌≤◌, ◌<◌}
 use native.Mathlib.Numerals.{add-one}
 use native.Mathlib.Omega.{arith}
-use lib.ListN.{length, get_or, take, replicate}
+use lib.ListN.{length, get_or, take, drop, replicate, take-append-drop}
 use lib.Seq.{take-suc}
 use Rattle.planner.specs.Choices.{irrigated}
 use Rattle.std.specs.List.{fold, sum as total}
@@ -15,6 +15,11 @@ unfolding irrigated
 irrigated_append [] ys = omega arith
 irrigated_append (zero ∷ xs) ys = omega (arith, irrigated_append xs ys)
 irrigated_append (suc x ∷ xs) ys = omega (arith, irrigated_append xs ys)
+
+sum-append : (xs ys : List ℕ) → sum (xs ++ ys) ≡ sum xs + sum ys
+unfolding sum
+sum-append [] ys = omega arith
+sum-append (x ∷ xs) ys = omega (arith, sum-append xs ys)
 
 -- what std's `sum` adds up, from any number on
 sum_from : (n : ℕ) (xs : List ℕ) → fold ◌+◌ n xs ≡ n + sum xs
@@ -39,6 +44,13 @@ unfolding irrigated
 irrigated_unwatered xs i h p =
     let none : get_or xs i 0 ≡ 0 = omega arith in
     rw (add-one, take-suc xs i 0, irrigated_append, none) (omega arith)
+
+pub sum_more : (xs : List ℕ) (i : ℕ) → i < length xs → sum (take (i + 1) xs) ≡ sum (take i xs) + get_or xs i 0
+unfolding sum
+sum_more xs i h = rw (add-one, take-suc xs i 0, sum-append) (omega arith)
+
+pub sum_part : (xs : List ℕ) (i : ℕ) → sum (take i xs) ≤ sum xs
+sum_part xs i = omega (arith, sum-append (take i xs) (drop i xs), ap sum (take-append-drop i xs))
 
 pub take_zeros : (m n : ℕ) → m ≤ n → take m (replicate {A = ℕ} n 0) ≡ replicate m 0
 take_zeros zero n h = refl
