@@ -177,6 +177,10 @@ module _ (climate : List ℕ) (blocks limit : ℕ) (lengths sheets areas depths 
   unfolding banked
   wrong_refused i e = rw (← i, ← e)
 
+  pub bank_wrong_lem : bank_wrong blocks limit lengths (length sheets) (length areas) (length depths) ≡ true → (Refused 22 0, answers, depths) ≡ banked climate blocks limit lengths sheets areas depths answers
+  unfolding banked or_refused
+  bank_wrong_lem e = rw e
+
   module _ (e : bank_wrong blocks limit lengths (length sheets) (length areas) (length depths) ≡ false) (c : Climate) (is : c ≡ climate_of climate) where
     pub climate_refused : {number value : ℕ} → c.verdict ≡ Refused number value → (Refused number value, answers, depths) ≡ banked climate blocks limit lengths sheets areas depths answers
     unfolding banked or_refused
@@ -190,6 +194,7 @@ module _ (climate : List ℕ) (blocks limit : ℕ) (lengths sheets areas depths 
 pub record Laid (blocks limit : ℕ) (lengths : List ℕ) (sheets areas depths : ℕ) : Type 0 where
   pub some : 1 ≤ blocks
   pub counted : Counted blocks lengths
+  pub limit_some : 1 ≤ limit
   pub sheets_fit : start_of lengths 0 blocks ≤ sheets
   pub areas_fit : start_of lengths 1 blocks ≤ areas
   pub depths_fit : start_of lengths 2 blocks ≤ depths
@@ -205,6 +210,7 @@ laid blocks limit lengths sheets areas depths e =
     record {
       some = ltb-false blocks 1 (or_left (ltb blocks 1) (ltb 40 blocks) n);
       counted = record { few = ltb-false 40 blocks (or_right (ltb blocks 1) (ltb 40 blocks) n); three = ltb-false (length lengths) (3 * blocks) (or_left (ltb (length lengths) (3 * blocks)) _ b) };
+      limit_some = ltb-false limit 1 (or_left (ltb limit 1) (ltb 40 limit) (or_left (outside limit) _ a));
       sheets_fit = ltb-false sheets (start_of lengths 0 blocks) (or_left (ltb sheets (start_of lengths 0 blocks)) _ c);
       areas_fit = ltb-false areas (start_of lengths 1 blocks) (or_left (ltb areas (start_of lengths 1 blocks)) _ d);
       depths_fit = ltb-false depths (start_of lengths 2 blocks) (or_right (ltb areas (start_of lengths 1 blocks)) _ d);

@@ -8,6 +8,7 @@ use native.Mathlib.Numerals.{add-one}
 use lib.Dec.{ltb}
 use lib.ListN.{length, get_or, take, drop, set, length-set}
 use lib.Seq.{get_or-set_same, get_or-set_other}
+use borrow.Author.Tests.{eq-eqb}
 use Rattle.season.proofs.Whole.{by_order}
 use Rattle.std.specs.Prelude.{Option, Some, None, unwrap_or}
 use Rattle.std.specs.Option.{IsSome}
@@ -25,7 +26,7 @@ use Rattle.journal.specs.Entries.{waiting}
 use Rattle.bank.specs.declared.Start.{Start}
 use Rattle.bank.specs.declared.Kept.{Kept}
 use Rattle.bank.specs.Blocks.{length_of, start_of, part_of}
-use Rattle.bank.specs.Judging.{Stand, Judged, standing_on, judged_in, not_judged, judged, only_judged, Blocks, judged_at, first_refused, other_start, starts_differ, blocks_verdict, ReadClimate}
+use Rattle.bank.specs.Judging.{Stand, Judged, no_standing, standing_on, judged_in, not_judged, judged, only_judged, Blocks, judged_at, first_refused, other_start, starts_differ, blocks_verdict, ReadClimate}
 use Rattle.bank.specs.Carried.{kept_of, nothing, Noted}
 use Rattle.bank.proofs.Parts.{start_next, part_within}
 
@@ -40,13 +41,21 @@ module _ (s : Season) (area : List ℕ) (room : ℕ) (o : Opening) (is : o ≡ o
   unfolding standing_on
   stand_clean l n c e = rw (sym is ∙ c, e)
 
+  pub stand_torn : (l : Ledger) (place : ℕ) → o ≡ found.Torn l place → no_standing 10 place ≡ standing_on s room (opening s area)
+  unfolding standing_on
+  stand_torn l place c = rw (sym is ∙ c)
+
+  pub stand_refused : (number place : ℕ) → o ≡ found.Refused number place → no_standing number place ≡ standing_on s room (opening s area)
+  unfolding standing_on
+  stand_refused number place c = rw (sym is ∙ c)
+
 -- By what reading the sheet answered.
 module _ (c : Climate) (sheet area : List ℕ) (room : ℕ) (r : Sheet) (is : r ≡ block_with c sheet) where
   pub judged_refused : {number value : ℕ} → r.verdict ≡ Refused number value → not_judged number value ≡ only_judged (judged c sheet area room)
   unfolding judged
   judged_refused e = rw (← is, e)
 
-  judged_accepted : r.verdict ≡ Accepted → judged_in r.season (standing_on r.season room (opening r.season area)) ≡ judged c sheet area room
+  pub judged_accepted : r.verdict ≡ Accepted → judged_in r.season (standing_on r.season room (opening r.season area)) ≡ judged c sheet area room
   unfolding judged
   judged_accepted e = rw (← is, e)
 
@@ -80,6 +89,9 @@ module _ (j : Judged) where
   only_accepted e v = let z : j.verdict ≡ Accepted = sym only_verdict ∙ ap (λ (x : Judged). x.verdict) (sym e) ∙ v in e ∙ rw z
 
 -- ---- all of them
+
+same_start : (a : Start) → other_start a a ≡ false
+same_start a = rw (eq-eqb a.month a.month refl, eq-eqb a.first a.first refl, eq-eqb a.february a.february refl, eq-eqb a.day a.day refl)
 
 module _ (f : ℕ → Judged) where
   first_next : (k : ℕ) → first_refused f k ≡ Accepted → first_refused f (k + 1) ≡ (f k).verdict
@@ -117,7 +129,7 @@ start_of_first f zero = None
 start_of_first f (suc k) = Some (f 0).start
 
 -- Block k is held against it, the first one against itself.
-held_against : (f : ℕ → Judged) (k : ℕ) → unwrap_or (start_of_first f k) (f k).start ≡ (f 0).start
+pub held_against : (f : ℕ → Judged) (k : ℕ) → unwrap_or (start_of_first f k) (f k).start ≡ (f 0).start
 held_against f zero = refl
 held_against f (suc k) = refl
 
@@ -156,6 +168,9 @@ module _ {b : Blocks} {n : ℕ} {old kept : List Kept} {first : Option Start} {d
   pub area_within : {size : ℕ} → k < n → start_of b.lengths 1 n ≤ size → area-at + length_of b.lengths 1 k ≤ size
   area_within h i = rw w.area (part_within b.lengths 1 h i)
 
+  pub kept_room : n ≤ length old → k < n → k < length kept
+  kept_room h i = omega (arith, w.size)
+
   -- The block that is judged is the k-th.
   pub block_at : {j : Judged} {m i room : ℕ} → j ≡ only_judged (judged b.climate (take (sheet_at + m - sheet_at) (drop sheet_at b.sheets)) (take (area-at + i - area-at) (drop area-at b.areas)) room)
       → m ≡ length_of b.lengths 0 k → i ≡ length_of b.lengths 1 k → room ≡ length_of b.lengths 2 k → j ≡ only_judged (judged_at b k)
@@ -171,7 +186,7 @@ module _ {b : Blocks} {n : ℕ} {old kept : List Kept} {first : Option Start} {d
     judging_refused {number} {value} h e = rw (refused_stays (judged_at b) (k + 1) n number value (omega arith) (verdict_next ∙ e))
 
     -- It is held against the first.
-    held_next : unwrap_or first j.start ≡ (judged_at b 0).start
+    pub held_next : unwrap_or first j.start ≡ (judged_at b 0).start
     held_next = rw (w.start, is) (held_against (judged_at b) k)
 
     pub judging_next : {start : Start} {other : Bool} {sheet-end area-end : ℕ} {ks : List Kept} {x : Kept} → n ≤ length old → k < n → j.verdict ≡ Accepted
@@ -187,7 +202,7 @@ module _ {b : Blocks} {n : ℕ} {old kept : List Kept} {first : Option Start} {d
           accepted = verdict_next ∙ v;
           start = rw (add-one k, f);
           differs = rw (starts_next (judged_at b) k, ← w.differs, g, f, is);
-          each = rw d (kept_next (λ i. kept_of (judged_at b i)) kept k x (omega (arith, w.size)) w.each (y ∙ ap kept_of is));
+          each = rw d (kept_next (λ i. kept_of (judged_at b i)) kept k x (kept_room r h) w.each (y ∙ ap kept_of is));
           size = rw d (length-set kept k x ∙ w.size);
         }
 

@@ -6,6 +6,14 @@ use native.Mathlib.Omega.{arith}
 use lib.ListN.{length, take, drop, set}
 use lib.Seq.{sets, sets-eq, drop-set-lt, take-set-le, drop_at, take_at, drop-drop, length-take-le}
 
+pub five_stored : (l : List ℕ) (at a b c d e : ℕ) → set (set (set (set (set l at a) (at + 1) b) (at + 2) c) (at + 3) d) (at + 4) e ≡ sets l at (a ∷ b ∷ c ∷ d ∷ e ∷ [])
+five_stored l at a b c d e =
+    let z₁ : at + 1 ≡ suc at = omega arith in
+    let z₂ : at + 2 ≡ suc (suc at) = omega arith in
+    let z₃ : at + 3 ≡ suc (suc (suc at)) = omega arith in
+    let z₄ : at + 4 ≡ suc (suc (suc (suc at))) = omega arith in
+    rw (z₁, z₂, z₃, z₄)
+
 pub take_at_most : (k n : ℕ) (l : List ℕ) → k ≤ n → length (take k l) ≤ n
 take_at_most zero n l h = omega arith
 take_at_most (suc k) n [] h = omega arith
@@ -16,6 +24,10 @@ take_at_most (suc k) (suc n) (x ∷ l) h = omega (arith, take_at_most k n l (ome
 pub drop_sets : (vs l : List ℕ) (at i : ℕ) → at + length vs ≤ i → drop i (sets l at vs) ≡ drop i l
 drop_sets [] l at i h = refl
 drop_sets (v ∷ vs) l at i h = drop_sets vs (set l at v) (suc at) i (omega arith) ∙ drop-set-lt i l at v (omega arith)
+
+pub take_sets : (vs l : List ℕ) (at i : ℕ) → i ≤ at → take i (sets l at vs) ≡ take i l
+take_sets [] l at i h = refl
+take_sets (v ∷ vs) l at i h = take_sets vs (set l at v) (suc at) i (omega arith) ∙ take-set-le i l at v h
 
 -- What was put at a place stands there.
 pub part_sets : (vs l : List ℕ) (at n : ℕ) → at + length vs ≤ length l → length vs ≡ n → take n (drop at (sets l at vs)) ≡ vs

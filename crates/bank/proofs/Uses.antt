@@ -5,7 +5,7 @@ use mathlib.Core.List.{List, [], ◌∷◌}
 use native.Mathlib.Omega.{arith}
 use native.Mathlib.Numerals.{add-one}
 use lib.ListN.{length, get_or, take, set}
-use lib.Seq.{take_all}
+use lib.Seq.{set-get_or, take_all}
 use Rattle.planner.specs.Choices.{irrigated, Outlook}
 use Rattle.planner.specs.Bank.{watering, leaving}
 use Rattle.bank.specs.Banks.{add_used}
@@ -85,6 +85,12 @@ module _ {us xs now : List ℕ} {i : ℕ} (w : Adding us xs now i) where
         room = w.room;
         is = s ∙ rw (e, w.is, add-one i) (sym (added_next us xs i (omega (arith, w.room)) h));
       }
+
+  pub adding_watered : {next : List ℕ} → i < length xs → 0 < get_or xs i 0 → next ≡ set now i (get_or now i 0 + 1) → Adding us xs next (i + 1)
+  adding_watered h l s = adding_next h (rw (counts_one (get_or xs i 0) l) (omega (arith, adding_old))) s
+
+  pub adding_dry : i < length xs → get_or xs i 0 ≤ 0 → Adding us xs now (i + 1)
+  adding_dry h l = adding_next h (rw (counts_none (get_or xs i 0) l) (omega (arith, adding_old))) (sym (set-get_or now i 0))
 
   pub adding_valves : {next : List ℕ} {v : ℕ} → i < length xs → v ≡ irrigated (get_or xs i 0 ∷ []) → next ≡ set now i (get_or now i 0 + v) → Adding us xs next (i + 1)
   adding_valves h e s = adding_next h (omega (arith, e, adding_old)) s

@@ -53,18 +53,18 @@ pub struct Stand {
 
 // What all blocks of a bank have in common: fields 1 and 2, February's days, and the open day.
 #[derive(Clone, Copy, PartialEq)]
-struct Start {
-    month: u32,
-    first: u32,
-    february: u32,
-    day: u32,
+pub struct Start {
+    pub month: u32,
+    pub first: u32,
+    pub february: u32,
+    pub day: u32,
 }
 
 // A block that is judged, and not refused.
 #[derive(Clone, Copy)]
-struct Judged {
-    start: Start,
-    kept: Kept,
+pub struct Judged {
+    pub start: Start,
+    pub kept: Kept,
 }
 
 // The counts of valves used start at 0. (The array of zeros stands in a function of its own: it is written out in every goal behind it.)
