@@ -1,16 +1,17 @@
 -- The sheets' verdicts, by what their numbers and their judgement are.
-use Prim.Native.Nat.{ℕ, ◌≤◌}
+use Prim.Native.Nat.{ℕ, ◌+◌, ◌≤◌}
 use mathlib.Core.Path.{◌≡◌, refl, sym, ap, ap₂, ◌∙◌}
 use mathlib.Core.Bool.{Bool}
-use mathlib.Core.List.{List, ◌++◌}
+use mathlib.Core.List.{List, [], ◌∷◌, ◌++◌}
 use native.Mathlib.Omega.{arith}
-use lib.ListN.{length, take, replicate, length-take}
-use lib.Seq.{take_all}
+use lib.ListN.{length, take, drop, get_or, replicate, length-take, length-drop}
+use lib.Seq.{take_all, get_or-drop}
 use Rattle.verdict.specs.Refusals.{Verdict, Accepted, Refused, first_of, number_of}
 use Rattle.season.specs.declared.Season.{Season}
 use Rattle.verdict.proofs.First.{first_refused_lem, refused_accepted}
 use Rattle.fields.specs.Fields.{season_of, merged}
 use Rattle.fields.specs.Refusals.{climate_lines, block_lines, climate_verdict, block_verdict}
+use Rattle.fields.proofs.Merged.{gives, gives_take}
 use Rattle.sheet.specs.Sheets.{Climate, climate_numbers, block_numbers, then_refused, no_climate, climate_by, climate_of, block_of, sheet_is, refusal, only_accepted, unless_refused, block_with, sheets_of}
 use Rattle.sheet.specs.Numbers.{Numbers, numbers_are, numbers_in}
 use Rattle.std.specs.Prelude.{Result, Ok, Err}
@@ -132,3 +133,16 @@ unless_refused_lem (Refused n v) w s number value e = ap (λ (w : Verdict). reco
 pub refused_empty : (climate block : List ℕ) (number value : ℕ) → (sheets_of climate block).verdict ≡ Refused number value → sheets_of climate block ≡ refusal number value
 unfolding sheets_of block_with
 refused_empty climate block number value e = unless_refused_lem (climate_of climate).verdict (block_of block).verdict _ number value e
+
+-- Twelve numbers from a place on.
+pub dozen : (c : List ℕ) (at : ℕ) → at + 12 ≤ length c
+    → get_or c at 0 ∷ get_or c (at + 1) 0 ∷ get_or c (at + 2) 0 ∷ get_or c (at + 3) 0 ∷ get_or c (at + 4) 0 ∷ get_or c (at + 5) 0 ∷ get_or c (at + 6) 0 ∷ get_or c (at + 7) 0
+    ∷ get_or c (at + 8) 0 ∷ get_or c (at + 9) 0 ∷ get_or c (at + 10) 0 ∷ get_or c (at + 11) 0 ∷ []
+    ≡ take 12 (drop at c)
+unfolding gives
+dozen c at h =
+    let none : at + 0 ≡ at = omega arith in
+    let first : get_or c at 0 ≡ get_or (drop at c) 0 0 = sym (get_or-drop at c 0 0 ∙ ap (λ (k : ℕ). get_or c k 0) none) in
+    let place : (k : ℕ) → get_or c (at + k) 0 ≡ get_or (drop at c) k 0 = λ k. sym (get_or-drop at c k 0) in
+    (λ i. first i ∷ place 1 i ∷ place 2 i ∷ place 3 i ∷ place 4 i ∷ place 5 i ∷ place 6 i ∷ place 7 i ∷ place 8 i ∷ place 9 i ∷ place 10 i ∷ place 11 i ∷ [])
+    ∙ gives_take 12 (drop at c) (omega (arith, length-drop at c))
