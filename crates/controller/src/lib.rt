@@ -53,12 +53,14 @@ fn sheet_recorded(climate: &[u8], block: &[u8], area: &[u8], e: Entry) -> Result
     journal::record(season, area, e)
 }
 
-// Yield lost, by a yield response factor.
+// Yield lost, by a yield response factor. (Two arms in place of `?`: must-fail/loss_place_dropped changes what one hands on.)
 fn sheet_lost(climate: &[u8], block: &[u8], area: &[u8], ky: u32) -> Result<Losses, Refusal>
     ensures { lost_in result ≡ sheet_lost climate.now block.now area.now ky }
 {
-    let season = sheet::read(climate, block)?;
-    journal::loss(season, area, ky)
+    match sheet::read(climate, block) {
+        Ok(season) => journal::loss(season, area, ky),
+        Err(refusal) => Err(refusal),
+    }
 }
 
 // The plan of a season on its journal, from the open day on.
@@ -133,6 +135,7 @@ impl TryFrom<u32> for Role {
 
     ghost try_from_gives = { Says };
 
+    #[tactic(auto, unfolding(journal::specs::Roles::look_lines, verdict::specs::Refusals::or_refused))]
     fn try_from(role: u32) -> Result<Role, Refusal> {
         match role {
             1 => Ok(Role::Looks),
@@ -159,7 +162,7 @@ pub fn open(role: u32, climate: &[u8], block: &[u8], area: &[u8]) -> Opened
         } else {
             journal::without_stores(sheet_found(climate, block, area))
         },
-        Err(refusal) => journal::without_stores(refusal.into()),
+        Err(outside) => journal::without_stores(outside.into()),
     }
 }
 
