@@ -96,7 +96,7 @@ fn sheet_planned(
     plan_season(season, area, depths)
 }
 
-// What the probes say, on the sheets' bytes.
+// What the probes say, on the sheets' bytes. (Two arms in place of `?`, which keeps a copy of the season on the stack.)
 fn sheet_probed(
     climate: &[u8],
     block: &[u8],
@@ -107,8 +107,15 @@ fn sheet_probed(
 ) -> Result<Depletions, Refusal>
     ensures { probed_in result ≡ sheet_probed climate.now block.now area.now shallow deep capacity }
 {
-    let season = sheet::read(climate, block)?;
-    measuring::probe_season(season, area, probes::reading_of(shallow, deep), capacity)
+    match sheet::read(climate, block) {
+        Ok(season) => measuring::probe_season(
+            season,
+            area,
+            probes::reading_of(shallow, deep),
+            capacity,
+        ),
+        Err(first) => Err(first),
+    }
 }
 
 // The decade table, on the sheets' bytes.
