@@ -6,7 +6,6 @@ ghost use Rattle.std.specs.Prelude.{◌+◌, ◌-◌, ◌≤◌, ◌≡◌, [], 
 ghost use Rattle.std.proofs.lemmas.List.Edits.{sets};
 ghost use Rattle.leb128.specs.Groups.{encode};
 ghost use Rattle.verdict.specs.Refusals.{verdict_in};
-ghost use Rattle.verdict.specs.Refusals as verdicts;
 ghost use Rattle.fields.specs.Refusals.{block_lines};
 ghost use Rattle.sheet.specs.Numbers.{numbers_in, written};
 ghost use Rattle.sheet.specs.Reading.{numbers_by, count_of};
@@ -111,16 +110,6 @@ fn months(c: &[u32], at: usize) -> [u32; 12]
     dozen
 }
 
-// The climate of twenty-four numbers.
-fn climate_from(c: &[u32; 24]) -> Climate
-    ensures { accepted_climate result ≡ climate_by c.now verdicts.Accepted }
-{
-    Climate {
-        eto: months(c, 0),
-        rain: months(c, 12),
-    }
-}
-
 // A climate sheet's numbers into a lent array; or the first of refusals 1 to 4 that applies.
 fn fill_climate(sheet: &[u8], c: &mut [u32; 24]) -> Result<(), Refusal>
     ensures { climate_by c.new (verdict_in result) ≡ climate_of sheet.now }
@@ -135,7 +124,10 @@ pub fn read_climate(sheet: &[u8]) -> Result<Climate, Refusal>
 {
     let mut c = [0u32; 24];
     fill_climate(sheet, &mut c)?;
-    Ok(climate_from(&c))
+    Ok(Climate {
+        eto: months(&c, 0),
+        rain: months(&c, 12),
+    })
 }
 
 // ---- the block sheet
@@ -177,8 +169,7 @@ pub fn read(climate: &[u8], block: &[u8]) -> Result<Accepted, Refusal>
     fill_climate(climate, &mut c)?;
     let mut b = [0u32; 17];
     let count = fill_block(block, &mut b)?;
-    let Climate { eto, rain } = climate_from(&c);
-    let season = fields::season_of(eto, rain, &b[..count]);
+    let season = fields::season_of(months(&c, 0), months(&c, 12), &b[..count]);
     Ok(Accepted { season })
 }
 

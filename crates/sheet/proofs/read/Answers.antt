@@ -2,7 +2,7 @@
 use mathlib.Core.List.{List, ◌++◌}
 use Prim.Native.Nat.{ℕ}
 use mathlib.Core.Path.{◌≡◌, sym, ap, ◌∙◌}
-use lib.ListN.{length-take}
+use lib.ListN.{take, drop, length-take}
 use native.Mathlib.Omega.{arith}
 use Rattle.std.specs.Prelude.{Result, Ok, Err}
 use Rattle.verdict.specs.declared.Refusal.{Refusal}
@@ -10,18 +10,17 @@ use Rattle.verdict.specs.Refusals.{Accepted, Refused, number_of, verdict_in}
 use Rattle.verdict.proofs.First.{handed_on}
 use Rattle.fields.specs.Fields.{season_of, merged}
 use Rattle.fields.specs.Refusals.{block_lines}
-use Rattle.sheet.specs.declared.Climate as code
-use Rattle.sheet.specs.Sheets.{Climate, Sheet, block_numbers, then_refused, climate_by, climate_of, accepted_climate, sheet_is, refusal, block_with, sheets_of}
+use Rattle.sheet.specs.Sheets.{Climate, Sheet, block_numbers, then_refused, climate_by, climate_of, sheet_is, refusal, block_with, sheets_of}
 use Rattle.sheet.proofs.Verdicts.{with_refused, block_stopped, block_filled}
 use Rattle.sheet.proofs.Accepted.{accepted_season}
 use Rattle.sheet.proofs.read.Goals as goal
 
--- By the climate that was read, c being its numbers, and the numbers b of the block.
+-- By the numbers that were read, c of the climate and b of the block.
 module _ (climate block : List ℕ) where
-  pub filled : (t : code.Climate) (b : List ℕ) → accepted_climate t ≡ climate_of climate → b ≡ (block_numbers block).fields → Accepted ≡ then_refused block_lines (block_numbers block)
-      → sheet_is (season_of (merged (t.eto ++ t.rain) b)) Accepted ≡ sheets_of climate block
+  pub filled : (c b : List ℕ) → climate_by c Accepted ≡ climate_of climate → b ≡ (block_numbers block).fields → Accepted ≡ then_refused block_lines (block_numbers block)
+      → sheet_is (season_of (merged (take 12 c ++ take 12 (drop 12 c)) b)) Accepted ≡ sheets_of climate block
   unfolding sheets_of block_with
-  filled t b e f v = block_filled _ block b f v ∙ ap (λ (x : Climate). block_with x block) e
+  filled c b e f v = block_filled _ block b f v ∙ ap (λ (x : Climate). block_with x block) e
 
   pub climate_stopped : (c : List ℕ) (number value : ℕ) → climate_by c (Refused number value) ≡ climate_of climate → refusal number value ≡ sheets_of climate block
   unfolding sheets_of
@@ -55,13 +54,13 @@ returns-in_err-count c =
 
 pub returns : goal.returns
 returns c =
-    rw c.season_of-season.ensures
-    (filled c.args.climate.now c.args.block.now _ _ (c.climate_from.ensures ∙ accepted _ _ _ c.fill_climate.ensures c.in_ok-fill_climate.was) c.in_ok-count.ensures.numbers.2
+    rw (c.season_of-season.ensures, c.months.ensures, c.months-2.ensures)
+    (filled c.args.climate.now c.args.block.now c.fill_climate.new.c _ (accepted _ _ _ c.fill_climate.ensures c.in_ok-fill_climate.was) c.in_ok-count.ensures.numbers.2
     (sym (ap verdict_in c.in_ok-count.was) ∙ c.fill_block.ensures.verdict))
 
 pub invariant_of-result : goal.invariant_of-result
 invariant_of-result c =
     let same =
-    filled c.args.climate.now c.args.block.now _ _ (c.climate_from.ensures ∙ accepted _ _ _ c.fill_climate.ensures c.in_ok-fill_climate.was) c.in_ok-count.ensures.numbers.2
+    filled c.args.climate.now c.args.block.now c.fill_climate.new.c _ (accepted _ _ _ c.fill_climate.ensures c.in_ok-fill_climate.was) c.in_ok-count.ensures.numbers.2
     (sym (ap verdict_in c.in_ok-count.was) ∙ c.fill_block.ensures.verdict) in
-    record { accepted = rw (c.season_of-season.ensures, ap (λ (x : Sheet). x.season) same) (accepted_season c.args.climate.now c.args.block.now (ap (λ (x : Sheet). x.verdict) (sym same))) }
+    record { accepted = rw (c.season_of-season.ensures, c.months.ensures, c.months-2.ensures, ap (λ (x : Sheet). x.season) same) (accepted_season c.args.climate.now c.args.block.now (ap (λ (x : Sheet). x.verdict) (sym same))) }

@@ -9,7 +9,7 @@ use Rattle.sheet.proofs.read_climate.Goals as goal
 
 pub returns : goal.returns
 returns c =
-    rw c.climate_from.ensures
+    rw (c.months.ensures, c.months-2.ensures)
     (sym (ap (λ (r : Result (Unit {0}) Refusal). climate_by c.fill_climate.new.c (verdict_in r)) c.in_ok-fill_climate.was) ∙ c.fill_climate.ensures)
 
 pub returns-in_err-fill_climate : goal.returns-in_err-fill_climate
