@@ -45,12 +45,14 @@ fn sheet_found(climate: &[u8], block: &[u8], area: &[u8]) -> Opening
     }
 }
 
-// An entry call on the sheets' bytes.
+// An entry call on the sheets' bytes. (Two arms in place of `?`, which copies the season.)
 fn sheet_recorded(climate: &[u8], block: &[u8], area: &[u8], e: Entry) -> Result<Stores, Refusal>
     ensures { recorded_in result ≡ sheet_recorded climate.now block.now area.now e }
 {
-    let season = sheet::read(climate, block)?;
-    journal::record(season, area, e)
+    match sheet::read(climate, block) {
+        Ok(season) => journal::record(season, area, e),
+        Err(first) => Err(first),
+    }
 }
 
 // Yield lost, by a yield response factor. (Two arms in place of `?`: must-fail/loss_place_dropped changes what one hands on.)
